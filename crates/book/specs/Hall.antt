@@ -1,0 +1,111 @@
+-- The hall of document 01: its limits, its five tables and what they hold when they are right, and its image. Assumes nothing.
+use Prim.Native.Nat.{ℕ, zero, suc, _+_, _*_, _-_, _/_, _%_}
+use mathlib.Core.Bool.{Bool, true, cond, not, _&&_, _||_}
+use mathlib.Core.List.{List, [], _∷_, _++_}
+use lib.Dec.{eqb, ltb, leb}
+use lib.ListN.{length, getD}
+use Rattle.routes.specs.Route.{Costs, sumTo, joinTo, listTo, allTo, same, link, leastTime, ways, share, score, used}
+
+-- the limits, and the scale L; the mark stands with the times
+abbrev pub mostStops : ℕ
+mostStops = 64
+
+abbrev pub largestCost : ℕ
+largestCost = 65535
+
+abbrev pub mostWays : ℕ
+mostWays = 22
+
+abbrev pub scale : ℕ
+scale = 232792560
+
+-- x is from 1 to m
+abbrev pub upTo : ℕ → ℕ → Bool
+upTo m x = leb 1 x && leb x m
+
+-- the five tables, rows in order of source
+pub record Tables : Type 0 where
+  pub cost : List ℕ
+  pub time : List ℕ
+  pub ways : List ℕ
+  pub share : List ℕ
+  pub score : List ℕ
+
+-- a table of n rows and its entry in row s, column t
+abbrev pub table : ℕ → (ℕ → ℕ → ℕ) → List ℕ
+table n f = joinTo n (λ s. listTo n (f s))
+
+abbrev pub entry : ℕ → List ℕ → ℕ → ℕ → ℕ
+entry n l s t = getD l (s * n + t) 0
+
+-- the tables of the hall with these costs, by listing every route; L is the scale
+unfoldable pub filled : ℕ → ℕ → List ℕ → Tables
+filled L n cost =
+    let W : Costs = entry n cost in
+    record { cost = cost; time = table n (leastTime W n); ways = table n (ways W n); share = table n (λ s. share W n s L); score = listTo n (score W n L) }
+
+-- each table has its length
+unfoldable pub sized : ℕ → Tables → Bool
+sized n t =
+    let square : List ℕ → Bool = λ l. eqb (length l) (n * n) in
+    square (t .cost) && (square (t .time) && (square (t .ways) && (square (t .share) && eqb (length (t .score)) n)))
+
+-- two different stops
+abbrev pub validPair : ℕ → ℕ → ℕ → Bool
+validPair n u v = ltb u n && (ltb v n && not (eqb u v))
+
+-- every entry is a cost or 0, and 0 on the diagonal
+unfoldable pub validCosts : ℕ → List ℕ → Bool
+validCosts n cost = allTo n (λ u. allTo n (λ v. leb (entry n cost u v) (cond (eqb u v) 0 largestCost)))
+
+-- no pair has more than m ways
+unfoldable pub uncrowded : ℕ → ℕ → List ℕ → Bool
+uncrowded m n cost = allTo n (λ s. allTo n (λ t. leb (ways (entry n cost) n s t) m))
+
+-- the tables belong to their hall: what audit tests
+unfoldable pub right : ℕ → ℕ → ℕ → Tables → Bool
+right L m n t =
+    let f : Tables = filled L n (t .cost) in
+    validCosts n (t .cost) && (uncrowded m n (t .cost) && (same (t .time) (f .time) && (same (t .ways) (f .ways) &&
+    (same (t .share) (f .share) && same (t .score) (f .score)))))
+
+-- a quickest route from s, over the costs before or after, uses the link u to v
+unfoldable pub touched : ℕ → List ℕ → List ℕ → ℕ → ℕ → ℕ → Bool
+touched n before after u v s = used (entry n before) n s u v || used (entry n after) n s u v
+
+-- x in k bytes, low byte first, and the number that stands so in k bytes at a place
+unfoldable pub lowFirst : ℕ → ℕ → List ℕ
+lowFirst zero x = []
+lowFirst (suc k) x = x % 256 ∷ lowFirst k (x / 256)
+
+unfoldable pub field : List ℕ → ℕ → ℕ → ℕ
+field image at zero = 0
+field image at (suc k) = getD image at 0 + 256 * field image (at + 1) k
+
+-- the image of a hall: a record for each link, rising by (from, to), and the trailer
+unfoldable pub imageOf : ℕ → List ℕ → List ℕ
+imageOf n cost =
+    let record′ : ℕ → ℕ → List ℕ = λ u v. u ∷ v ∷ lowFirst 2 (entry n cost u v) in
+    let records : List ℕ = joinTo n (λ u. joinTo n (λ v. cond (link (entry n cost) u v) (record′ u v) [])) in
+    records ++ (n ∷ 1 ∷ (lowFirst 2 (length records / 4) ++ lowFirst 4 (length records)))
+
+-- record i of an image is a link, and comes after the record before it
+unfoldable pub validRecord : ℕ → List ℕ → ℕ → Bool
+validRecord n image i =
+    let key : ℕ → ℕ = λ j. 256 * field image (4 * j) 1 + field image (4 * j + 1) 1 in
+    validPair n (field image (4 * i) 1) (field image (4 * i + 1) 1) && (upTo largestCost (field image (4 * i + 2) 2) &&
+    (eqb i 0 || ltb (key (i - 1)) (key i)))
+
+-- the bytes are an image of a hall of n stops: read from the end
+unfoldable pub isImage : ℕ → List ℕ → Bool
+isImage n image =
+    let at : ℕ = length image - 8 in
+    let links : ℕ = field image (at + 2) 2 in
+    leb 8 (length image) && (eqb (field image at 1) n && (eqb (field image (at + 1) 1) 1 &&
+    (eqb (field image (at + 4) 4) (4 * links) && (eqb (4 * links) at && allTo links (validRecord n image)))))
+
+-- the cost table of an image's hall
+unfoldable pub costsOf : ℕ → List ℕ → List ℕ
+costsOf n image =
+    let links : ℕ = (length image - 8) / 4 in
+    table n (λ u v. sumTo links (λ i. cond (eqb (field image (4 * i) 1) u && eqb (field image (4 * i + 1) 1) v) (field image (4 * i + 2) 2) 0))

@@ -1,0 +1,4 @@
+pub mod Hall
+pub mod Call
+pub mod Book
+pub mod Cases

@@ -1,0 +1,22 @@
+-- `Hall::takes` tests that n is from 1 to the most stops.
+use Prim.Native.Nat.{ℕ, suc, _≤_}
+use mathlib.Core.Path.{_≡_}
+use mathlib.Core.Bool.{true, false}
+use native.Mathlib.Omega.{arith}
+use lib.Dec.{leb}
+use borrow.Author.Tests.{eqb-true, eqb-false, le-leb, lt-leb}
+use Rattle.hall.proofs.limits.Hall.takes.Statement.{statement}
+use Rattle.hall.proofs.limits.Hall.takes.Tie as tie
+
+returns : tie.Need-returns
+returns c =
+    let small : leb 1 (c .before .args .n) ≡ false = lt-leb 1 (c .before .args .n) (omega (arith, c .if1 .taken)) in
+    rw small
+
+returns-2 : tie.Need-returns-2
+returns-2 c =
+    let some : leb 1 (c .before .args .n) ≡ true = le-leb 1 (c .before .args .n) (omega (arith, c .if1 .left)) in
+    rw some
+
+pub takes-spec : {M : Type 1} → statement M
+takes-spec = tie.close (tie.spec returns returns-2)

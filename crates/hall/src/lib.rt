@@ -1,0 +1,2 @@
+// The hall: its type, its limits, and every call on its tables.
+mod limits;

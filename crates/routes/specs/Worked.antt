@@ -1,0 +1,89 @@
+-- Two halls whose tables were worked out by hand: the definitions compute the same. Assumes nothing.
+use Prim.Native.Nat.{ℕ, _+_, _*_, _/_}
+use mathlib.Core.Path.{_≡_, refl}
+use mathlib.Core.List.{List, [], _∷_}
+use lib.ListN.{getD}
+use Rattle.routes.specs.Route.{Costs, mark, sumTo, joinTo, listTo, count, visits, time, least, extend, hops, routes, leastTime, quickest, ways, through, portion, share, score}
+
+abbrev table : ℕ → (ℕ → ℕ → ℕ) → List ℕ
+table n f = joinTo n (λ s. listTo n (f s))
+
+abbrev L : ℕ
+L = 232792560
+
+-- Document 01's hall of four stops: two routes of time 10 from 0 to 3, one over 1 and one over 2.
+abbrev pub diamond : Costs
+diamond u v = getD
+    (0 ∷ 5 ∷ 5 ∷ 0 ∷
+    0 ∷ 0 ∷ 0 ∷ 5 ∷
+    0 ∷ 0 ∷ 0 ∷ 5 ∷
+    0 ∷ 0 ∷ 0 ∷ 0 ∷ []) (u * 4 + v) 0
+
+diamond-times : table 4 (leastTime diamond 4) ≡
+    0 ∷ 5 ∷ 5 ∷ 10 ∷
+    mark ∷ 0 ∷ mark ∷ 5 ∷
+    mark ∷ mark ∷ 0 ∷ 5 ∷
+    mark ∷ mark ∷ mark ∷ 0 ∷ []
+unfolding joinTo listTo time least extend visits hops routes leastTime
+diamond-times = refl
+
+diamond-ways : table 4 (ways diamond 4) ≡
+    1 ∷ 1 ∷ 1 ∷ 2 ∷
+    0 ∷ 1 ∷ 0 ∷ 1 ∷
+    0 ∷ 0 ∷ 1 ∷ 1 ∷
+    0 ∷ 0 ∷ 0 ∷ 1 ∷ []
+unfolding joinTo listTo count time least extend visits hops routes leastTime quickest ways
+diamond-ways = refl
+
+diamond-shares : table 4 (λ s. share diamond 4 s L) ≡
+    0 ∷ L / 2 ∷ L / 2 ∷ 0 ∷
+    0 ∷ 0 ∷ 0 ∷ 0 ∷
+    0 ∷ 0 ∷ 0 ∷ 0 ∷
+    0 ∷ 0 ∷ 0 ∷ 0 ∷ []
+unfolding sumTo joinTo listTo count time least extend visits hops routes leastTime quickest ways through portion share
+diamond-shares = refl
+
+diamond-scores : listTo 4 (score diamond 4 L) ≡ 0 ∷ L / 2 ∷ L / 2 ∷ 0 ∷ []
+unfolding sumTo joinTo listTo count time least extend visits hops routes leastTime quickest ways through portion share score
+diamond-scores = refl
+
+-- Five stops. From 0 there are two routes of time 2 to 1 and three of time 5 to 3; nothing leads to 0 or away from 4.
+abbrev pub ties : Costs
+ties u v = getD
+    (0 ∷ 2 ∷ 1 ∷ 0 ∷ 0 ∷
+    0 ∷ 0 ∷ 0 ∷ 3 ∷ 0 ∷
+    0 ∷ 1 ∷ 0 ∷ 4 ∷ 0 ∷
+    0 ∷ 0 ∷ 0 ∷ 0 ∷ 1 ∷
+    0 ∷ 0 ∷ 0 ∷ 0 ∷ 0 ∷ []) (u * 5 + v) 0
+
+ties-times : table 5 (leastTime ties 5) ≡
+    0 ∷ 2 ∷ 1 ∷ 5 ∷ 6 ∷
+    mark ∷ 0 ∷ mark ∷ 3 ∷ 4 ∷
+    mark ∷ 1 ∷ 0 ∷ 4 ∷ 5 ∷
+    mark ∷ mark ∷ mark ∷ 0 ∷ 1 ∷
+    mark ∷ mark ∷ mark ∷ mark ∷ 0 ∷ []
+unfolding joinTo listTo time least extend visits hops routes leastTime
+ties-times = refl
+
+ties-ways : table 5 (ways ties 5) ≡
+    1 ∷ 2 ∷ 1 ∷ 3 ∷ 3 ∷
+    0 ∷ 1 ∷ 0 ∷ 1 ∷ 1 ∷
+    0 ∷ 1 ∷ 1 ∷ 2 ∷ 2 ∷
+    0 ∷ 0 ∷ 0 ∷ 1 ∷ 1 ∷
+    0 ∷ 0 ∷ 0 ∷ 0 ∷ 1 ∷ []
+unfolding joinTo listTo count time least extend visits hops routes leastTime quickest ways
+ties-ways = refl
+
+-- From 0, stop 1 is on two of the three routes to 3 and to 4; stop 2 also on one of the two routes to 1.
+ties-shares : table 5 (λ s. share ties 5 s L) ≡
+    0 ∷ (2 * L / 3 + 2 * L / 3) ∷ (L / 2 + 2 * L / 3 + 2 * L / 3) ∷ L ∷ 0 ∷
+    0 ∷ 0 ∷ 0 ∷ L ∷ 0 ∷
+    0 ∷ (L / 2 + L / 2) ∷ 0 ∷ L ∷ 0 ∷
+    0 ∷ 0 ∷ 0 ∷ 0 ∷ 0 ∷
+    0 ∷ 0 ∷ 0 ∷ 0 ∷ 0 ∷ []
+unfolding sumTo joinTo listTo count time least extend visits hops routes leastTime quickest ways through portion share
+ties-shares = refl
+
+ties-scores : listTo 5 (score ties 5 L) ≡ 0 ∷ 7 * L / 3 ∷ 11 * L / 6 ∷ 3 * L ∷ 0 ∷ []
+unfolding sumTo joinTo listTo count time least extend visits hops routes leastTime quickest ways through portion share score
+ties-scores = refl
