@@ -1,5 +1,5 @@
 -- Bounds of shares, of what flows back and of scores, for sums in 64 bits. Assumes nothing.
-use Prim.Native.Nat.{ℕ, zero, suc, _+_, _-_, _*_, _/_, _<_, _≤_, min}
+use Prim.Native.Nat.{ℕ, suc, _+_, _-_, _*_, _/_, _<_, _≤_}
 use mathlib.Core.Path.{_≡_, refl, sym, ap, ap₂}
 use mathlib.Core.Logic.{_≢_}
 use mathlib.Core.Bool.{Bool, true, false, cond, _||_}
@@ -9,7 +9,7 @@ use native.Mathlib.Omega.{arith}
 use lib.Dec.{eqb, ltb}
 use borrow.Author.Tests.{eq-eqb, ne-eqb}
 use Rattle.routes.specs.Route.{Costs, mark, sumTo, leastTime, ways, through, portion, share, score}
-use Rattle.routes.specs.Equations.{tight, outflow, quotient, cappedWays, openShare}
+use Rattle.routes.specs.Equations.{tight, quotient, cappedWays, openShare}
 use Rattle.routes.specs.Sums.{sumTo-le, sumTo-bound, sumTo-bound-but, sumTo-add, sumTo-pick, sumTo-mul-left, cond-true, cond-false, flow-zero}
 use Rattle.routes.specs.Tight.{tight-true}
 use Rattle.routes.specs.Flows.{Flows}
@@ -39,7 +39,7 @@ module _ (W : Costs) (n s : ℕ) (F : Flows W n s) where
     -- ways times what flows back is at most n times the scale
     pub ways-back-le : (v : ℕ) → v < n → ways W n s v * flowBack W n s limit scale v ≤ n * scale
     unfolding flowBack
-    ways-back-le v l = 
+    ways-back-le v l =
         le-trans
         (le-of-eq (sym (sumTo-mul-left n (ways W n s v) (λ t. quotient limit scale (ways W n s t) * paths W n s v t))))
         (sumTo-bound n scale (λ t k. each t k))
@@ -47,29 +47,38 @@ module _ (W : Costs) (n s : ℕ) (F : Flows W n s) where
         each : (t : ℕ) → t < n → ways W n s v * (quotient limit scale (ways W n s t) * paths W n s v t) ≤ scale
         each t k =
             let q : ℕ = quotient limit scale (ways W n s t) in
-            omega
-            (arith,
-            mul-left-comm (ways W n s v) q (paths W n s v t),
-            ap (λ x. q * x) (through-paths W n s F v t l k),
-            mul-le-mul-left q (through-le W n s F v t l k),
-            quotient-le limit scale (ways W n s t))
+            omega (
+              arith,
+              mul-left-comm (ways W n s v) q (paths W n s v t),
+              ap (λ x. q * x) (through-paths W n s F v t l k),
+              mul-le-mul-left q (through-le W n s F v t l k),
+              quotient-le limit scale (ways W n s t),
+            )
 
     pub capped-back-le : (v : ℕ) → v < n → cappedWays W n s limit v * flowBack W n s limit scale v ≤ n * scale
-    capped-back-le v l = 
+    capped-back-le v l =
         le-trans (mul-le-mul-right _ (min-le-right (suc limit) (ways W n s v))) (ways-back-le v l)
 
     -- and so is what flows back alone
     pub back-le : (v : ℕ) → v < n → flowBack W n s limit scale v ≤ n * scale
     back-le v l = elim (ℕ-discrete (leastTime W n s v) mark) [
-          yes p ↦
-            omega
-            (arith,
+      | yes p ↦
+          omega (
+            arith,
             flowing W n s F limit scale v l,
-            flow-zero n (λ w. tight W (leastTime W n s) v w) (flowBack W n s limit scale) (λ w k e. absurd (tight-true W (leastTime W n s) v w e .reached p)),
+            flow-zero
+                n
+                (λ w. tight W (leastTime W n s) v w)
+                (flowBack W n s limit scale)
+                (λ w k e. absurd (tight-true W (leastTime W n s) v w e .reached p)),
             quotient-small limit scale (cappedWays W n s limit v),
-            mul-le-mul-right {m = 1} {n = n} scale (omega arith))
-        | no p ↦ le-trans (omega (arith, mul-le-mul-right (flowBack W n s limit scale v) (F .reached v l p))) (ways-back-le v l)
-        ]
+            mul-le-mul-right {m = 1} {n = n} scale (omega arith),
+          )
+      | no p ↦
+          le-trans
+          (omega (arith, mul-le-mul-right (flowBack W n s limit scale v) (F .reached v l p)))
+          (ways-back-le v l)
+    ]
 
   module _ (scale : ℕ) where
     -- a pair adds at most the scale
@@ -88,27 +97,38 @@ module _ (W : Costs) (n s : ℕ) (F : Flows W n s) where
     pub share-le : (v : ℕ) → s < n → v < n → share W n s scale v ≤ (n - 2) * scale
     unfolding share portion
     share-le v k l = elim (ℕ-discrete v s) [
-          yes p ↦ omega (arith, cond-true 0 (sumTo n (portion W n s scale v)) (eq-eqb v s p))
-        | no p ↦
-            omega
-            (arith,
+      | yes p ↦ omega (arith, cond-true 0 (sumTo n (portion W n s scale v)) (eq-eqb v s p))
+      | no p ↦
+          omega (
+            arith,
             cond-false 0 (sumTo n (portion W n s scale v)) (ne-eqb v s p),
             but
-            (sumTo n (portion W n s scale v))
-            n
-            2
-            scale
-            (omega
-            (arith,
-            sumTo-bound-but n scale v (λ t. portion W n s scale v t + cond (eqb t s) scale 0) l (last p) (λ t m. each t m (eqb t s) refl),
-            sumTo-add n (portion W n s scale v) (λ t. cond (eqb t s) scale 0),
-            sumTo-pick n s (λ t. scale) k)))
-        ]
+                (sumTo n (portion W n s scale v))
+                n
+                2
+                scale
+                (omega (
+                  arith,
+                  sumTo-bound-but
+                      n
+                      scale
+                      v
+                      (λ t. portion W n s scale v t + cond (eqb t s) scale 0)
+                      l
+                      (last p)
+                      (λ t m. each t m (eqb t s) refl),
+                  sumTo-add n (portion W n s scale v) (λ t. cond (eqb t s) scale 0),
+                  sumTo-pick n s (λ t. scale) k,
+                )),
+          )
+    ]
       where
         end : (t : ℕ) → (eqb t s || eqb t v) ≡ true → portion W n s scale v t ≡ 0
         end t e = cond-true 0 (scale * through W n s v t / ways W n s t) e
+
         last : v ≢ s → portion W n s scale v v + cond (eqb v s) scale 0 ≡ 0
         last p = omega (arith, cond-false scale 0 (ne-eqb v s p), end v (ap₂ _||_ (ne-eqb v s p) (eq-eqb v v refl)))
+
         each : (t : ℕ) → t < n → (b : Bool) → eqb t s ≡ b → portion W n s scale v t + cond b scale 0 ≤ scale
         each t m true e = omega (arith, end t (ap (λ b. b || eqb t v) e))
         each t m false e = omega (arith, portion-le v t l m)
@@ -126,37 +146,51 @@ open-le W n s limit scale v = go (eqb v s)
     closed : (b : Bool) (x : ℕ) → cond b 0 x ≤ x
     closed true x = omega arith
     closed false x = omega arith
-    go : (b : Bool) → cond b 0 (sumTo n (λ t. cond (ltb limit (ways W n s t)) 0 (portion W n s scale v t))) ≤ cond b 0 (sumTo n (portion W n s scale v))
+
+    go : (b : Bool) →
+        cond b 0 (sumTo n (λ t. cond (ltb limit (ways W n s t)) 0 (portion W n s scale v t)))
+        ≤ cond b 0 (sumTo n (portion W n s scale v))
     go true = omega arith
     go false = sumTo-le n (λ t l. closed (ltb limit (ways W n s t)) (portion W n s scale v t))
 
 -- a score is at most (n - 1) (n - 2) times the scale
-pub score-le : (W : Costs) (n scale v : ℕ) → v < n → ((s : ℕ) → s < n → Flows W n s) → score W n scale v ≤ (n - 1) * ((n - 2) * scale)
+pub score-le : (W : Costs) (n scale v : ℕ) → v < n → ((s : ℕ) → s < n → Flows W n s) →
+    score W n scale v ≤ (n - 1) * ((n - 2) * scale)
 unfolding score
-score-le W n scale v l F = 
+score-le W n scale v l F =
     but
     (sumTo n (λ s. share W n s scale v))
     n
     1
     ((n - 2) * scale)
-    (omega
-    (arith,
-    sumTo-bound-but n ((n - 2) * scale) v (λ s. share W n s scale v) l (share-own W n scale v) (λ s k. share-le W n s (F s k) scale v k l)))
+    (omega (
+      arith,
+      sumTo-bound-but
+          n
+          ((n - 2) * scale)
+          v
+          (λ s. share W n s scale v)
+          l
+          (share-own W n scale v)
+          (λ s k. share-le W n s (F s k) scale v k l),
+    ))
 
 -- in a hall of at most 64 stops: at most 62 and 63 × 62 times the scale
 module _ (W : Costs) (n scale v : ℕ) (small : n ≤ 64) (inside : v < n) where
   pub open-limit : (s limit : ℕ) → s < n → Flows W n s → openShare W n s limit scale v ≤ 62 * scale
   open-limit s limit k F =
-      omega
-      (arith,
-      open-le W n s limit scale v,
-      share-le W n s F scale v k inside,
-      mul-le-mul-right {m = n - 2} {n = 62} scale (omega arith))
+      omega (
+        arith,
+        open-le W n s limit scale v,
+        share-le W n s F scale v k inside,
+        mul-le-mul-right {m = n - 2} {n = 62} scale (omega arith),
+      )
 
   pub score-limit : ((s : ℕ) → s < n → Flows W n s) → score W n scale v ≤ 3906 * scale
   score-limit F =
-      omega
-      (arith,
-      score-le W n scale v inside F,
-      mul-le-mul-right {m = n - 2} {n = 62} scale (omega arith),
-      mul-le-mul-right {m = n - 1} {n = 63} ((n - 2) * scale) (omega arith))
+      omega (
+        arith,
+        score-le W n scale v inside F,
+        mul-le-mul-right {m = n - 2} {n = 62} scale (omega arith),
+        mul-le-mul-right {m = n - 1} {n = 63} ((n - 2) * scale) (omega arith),
+      )

@@ -19,10 +19,10 @@ pub record Flows (W : Costs) (n s : ℕ) : Type 0 where
 -- they hold where every route is quicker than the mark
 pub flows : (W : Costs) (n s c : ℕ) → s < n → Within W n c → n * c < mark → Flows W n s
 flows W n s c inside within small = record {
-    times = times W n s c inside within small;
-    source = ways-source W n s c inside within small;
-    summed = ways-flow W n s c inside within small;
-    reached = λ t l. ways-reached W n s c inside within small t l .1;
-    own = through-own W n s c inside within small;
-    passed = λ v t k. through-flow W n s c inside within small v t
-  }
+  times = times W n s c inside within small;
+  source = ways-source W n s c inside within small;
+  summed = ways-flow W n s c inside within small;
+  reached = λ t l. ways-reached W n s c inside within small t l .1;
+  own = through-own W n s c inside within small;
+  passed = λ v t k. through-flow W n s c inside within small v t;
+}

@@ -74,12 +74,12 @@ module _ (W : Costs) (n s : ℕ) (F : Flows W n s) where
       (F .own v k ∙ sym (ap (λ x. ways W n s v * x) (paths-own W n D mark v k (F .times .bounded v k)) ∙ mul-one _))
       (λ t l h. F .passed v t k l h)
       (λ t l h.
-          ap
-          (λ x. ways W n s v * x)
-          (paths-last W n D mark v t l (F .times .bounded t l)
-          ∙ ap (λ x. x + inflow W n D (paths W n s v) t) (other v t (λ e. h (sym e)))
-          ∙ zero-add _)
-          ∙ sym (flow-mul n (ways W n s v) (λ u. tight W D u t) (paths W n s v)))
+      ap
+      (λ x. ways W n s v * x)
+      (paths-last W n D mark v t l (F .times .bounded t l)
+      ∙ ap (λ x. x + inflow W n D (paths W n s v) t) (other v t (λ e. h (sym e)))
+      ∙ zero-add _)
+      ∙ sym (flow-mul n (ways W n s v) (λ u. tight W D u t) (paths W n s v)))
       t
       l
 
@@ -91,23 +91,24 @@ module _ (W : Costs) (n s : ℕ) (F : Flows W n s) where
           through W n s v t ≤ ways W n s t
       step t l ih =
           elim (ℕ-discrete t v) [
-            yes p ↦ omega (arith, ap (through W n s v) p, F .own v k, ap (ways W n s) p)
-          | no p ↦ elim (ℕ-discrete t s) [
-              yes q ↦
-                let none : inflow W n D (through W n s v) t ≡ 0 =
-                      inflow-zero W n D (through W n s v) t (λ u h r. absurd (omega (arith, ap D q, F .times .source))) in
-                omega (arith, F .passed v t k l p)
-            | no q ↦
-                omega
-                (arith,
-                F .passed v t k l p,
-                F .summed t l q,
-                flow-le
-                n
-                (λ u. tight W D u t)
-                (through W n s v)
-                (ways W n s)
-                (λ u h e. ih u h (tight-true W D u t e .rises)))
+            | yes p ↦ omega (arith, ap (through W n s v) p, F .own v k, ap (ways W n s) p)
+            | no p ↦ elim (ℕ-discrete t s) [
+              | yes q ↦
+                  let none : inflow W n D (through W n s v) t ≡ 0 =
+                  inflow-zero W n D (through W n s v) t (λ u h r. absurd (omega (arith, ap D q, F .times .source))) in
+                  omega (arith, F .passed v t k l p)
+              | no q ↦
+                  omega (
+                    arith,
+                    F .passed v t k l p,
+                    F .summed t l q,
+                    flow-le
+                        n
+                        (λ u. tight W D u t)
+                        (through W n s v)
+                        (ways W n s)
+                        (λ u h e. ih u h (tight-true W D u t e .rises)),
+                  )
             ]
           ]
 
@@ -128,13 +129,14 @@ module _ (W : Costs) (n s : ℕ) (F : Flows W n s) where
         go t k false e zero f = mul-zero (Q t)
         go t k false e (suc p) f =
             absurd
-            (omega
-            (arith,
-            ltb-false limit (ways W n s t) e,
-            through-le v t l k,
-            through-paths v t l k,
-            ap (λ x. ways W n s v * x) f,
-            mul-suc (ways W n s v) p))
+            (omega (
+              arith,
+              ltb-false limit (ways W n s t) e,
+              through-le v t l k,
+              through-paths v t l k,
+              ap (λ x. ways W n s v * x) f,
+              mul-suc (ways W n s v) p,
+            ))
 
     -- what flows back to the next stops, by the stops that it comes from
     outflow-back : (v : ℕ) → sumTo n (λ t. Q t * onward v t) ≡ outflow W n D ψ v
@@ -161,12 +163,12 @@ module _ (W : Costs) (n s : ℕ) (F : Flows W n s) where
     capped-back : (v : ℕ) → v < n → ways W n s v * outflow W n D ψ v ≡ cappedWays W n s limit v * outflow W n D ψ v
     capped-back v l =
         elim (decLe (ways W n s v) limit) [
-          yes h ↦ ap (λ x. x * outflow W n D ψ v) (omega arith)
-        | no h ↦
-            let none : outflow W n D ψ v ≡ 0 = omega (arith, flowing v l, crowded-back v l (omega arith)) in
-            ap (λ x. ways W n s v * x) none
-            ∙ mul-zero _
-            ∙ sym (ap (λ x. cappedWays W n s limit v * x) none ∙ mul-zero _)
+          | yes h ↦ ap (λ x. x * outflow W n D ψ v) (omega arith)
+          | no h ↦
+              let none : outflow W n D ψ v ≡ 0 = omega (arith, flowing v l, crowded-back v l (omega arith)) in
+              ap (λ x. ways W n s v * x) none
+              ∙ mul-zero _
+              ∙ sym (ap (λ x. cappedWays W n s limit v * x) none ∙ mul-zero _)
         ]
 
     module _ (div : (k : ℕ) → 0 < k → k ≤ limit → k ∣ scale) where
@@ -176,34 +178,36 @@ module _ (W : Costs) (n s : ℕ) (F : Flows W n s) where
       unfolding portion
       portion-onward v t k l h =
           elim (ℕ-discrete t s) [
-            yes p ↦ end (ap (λ b. b || eqb t v) (eq-eqb t s p)) (omega (arith, ap D p, F .times .source))
-          | no p ↦ elim (ℕ-discrete t v) [
-              yes q ↦ end (ap₂ _||_ (ne-eqb t s p) (eq-eqb t v q)) (omega (arith, ap D q))
-            | no q ↦
-                cond-false 0 _ (ap₂ _||_ (ne-eqb t s p) (ne-eqb t v q))
-                ∙ part-exact scale (through W n s v t) (ways W n s t) (λ r. div _ r h)
-                ∙ ap (λ x. x * quot) (through-paths v t k l ∙ ap (λ x. ways W n s v * x) (beyond q))
-                ∙ mul-assoc (ways W n s v) (onward v t) quot
-                ∙ ap (λ x. ways W n s v * x) (mul-comm (onward v t) quot)
+            | yes p ↦ end (ap (λ b. b || eqb t v) (eq-eqb t s p)) (omega (arith, ap D p, F .times .source))
+            | no p ↦ elim (ℕ-discrete t v) [
+              | yes q ↦ end (ap₂ _||_ (ne-eqb t s p) (eq-eqb t v q)) (omega (arith, ap D q))
+              | no q ↦
+                  cond-false 0 _ (ap₂ _||_ (ne-eqb t s p) (ne-eqb t v q))
+                  ∙ part-exact scale (through W n s v t) (ways W n s t) (λ r. div _ r h)
+                  ∙ ap (λ x. x * quot) (through-paths v t k l ∙ ap (λ x. ways W n s v * x) (beyond q))
+                  ∙ mul-assoc (ways W n s v) (onward v t) quot
+                  ∙ ap (λ x. ways W n s v * x) (mul-comm (onward v t) quot)
             ]
           ]
         where
           quot : ℕ
           quot = scale / ways W n s t
+
           beyond : t ≢ v → paths W n s v t ≡ onward v t
           beyond q =
               paths-first W n D mark v t k l (F .times .bounded t l)
               ∙ ap (λ x. x + onward v t) (other v t (λ e. q (sym e)))
               ∙ zero-add _
+
           end : (eqb t s || eqb t v) ≡ true → D t ≤ D v →
               cond (eqb t s || eqb t v) 0 (scale * through W n s v t / ways W n s t)
               ≡ ways W n s v * (scale / ways W n s t * onward v t)
           end e r =
               cond-true 0 _ e
               ∙ sym
-                (ap (λ x. ways W n s v * (quot * x)) (outflow-none W n D mark v t l r)
-                ∙ ap (λ x. ways W n s v * x) (mul-zero quot)
-                ∙ mul-zero _)
+              (ap (λ x. ways W n s v * (quot * x)) (outflow-none W n D mark v t l r)
+              ∙ ap (λ x. ways W n s v * x) (mul-zero quot)
+              ∙ mul-zero _)
 
       -- what a pair adds to the open share of v
       open-onward : (v t : ℕ) → v < n → t < n →
@@ -219,15 +223,15 @@ module _ (W : Costs) (n s : ℕ) (F : Flows W n s) where
       pub shares : Shares W n s limit scale D (cappedWays W n s limit) ψ (openShare W n s limit scale)
       unfolding openShare
       shares = record {
-          flowing = flowing;
-          source = cond-true 0 _ (eq-eqb s s refl);
-          shared =
+        flowing = flowing;
+        source = cond-true 0 _ (eq-eqb s s refl);
+        shared =
             λ v l h. cond-false 0 _ (ne-eqb v s h)
             ∙ sumTo-cong n (λ t k. open-onward v t l k)
             ∙ sumTo-mul-left n (ways W n s v) (λ t. Q t * onward v t)
             ∙ ap (λ x. ways W n s v * x) (outflow-back v)
-            ∙ capped-back v l
-        }
+            ∙ capped-back v l;
+      }
 
 -- where no pair exceeds the limit, the open share is the share, and all ways are counted
 module _ (W : Costs) (n s limit : ℕ) (few : (t : ℕ) → t < n → ways W n s t ≤ limit) where
@@ -239,31 +243,38 @@ module _ (W : Costs) (n s limit : ℕ) (few : (t : ℕ) → t < n → ways W n s
   pub open-ways : (t : ℕ) → t < n → cappedWays W n s limit t ≡ ways W n s t
   open-ways t l = omega (arith, few t l)
 
-module _ (W : Costs) (n s c limit scale : ℕ) (inside : s < n) (within : Within W n c) (small : n * c < mark) (div : (k : ℕ) → 0 < k → k ≤ limit → k ∣ scale) where
-  -- least times, ways up to the limit and open shares are a row
-  pub row : Row W n s limit scale (leastTime W n s) (cappedWays W n s limit) (openShare W n s limit scale)
-  row = record {
+module _
+    (W : Costs)
+    (n s c limit scale : ℕ)
+    (inside : s < n)
+    (within : Within W n c)
+    (small : n * c < mark)
+    (div : (k : ℕ) → 0 < k → k ≤ limit → k ∣ scale)
+  where
+    -- least times, ways up to the limit and open shares are a row
+    pub row : Row W n s limit scale (leastTime W n s) (cappedWays W n s limit) (openShare W n s limit scale)
+    row = record {
       ψ = flowBack W n s limit scale;
       times = times W n s c inside within small;
       counts = counts W n s c inside within small limit;
-      shares = shares W n s (flows W n s c inside within small) limit scale div
+      shares = shares W n s (flows W n s c inside within small) limit scale div;
     }
 
-  -- so every row that meets the equations holds them
-  pub row-right : (d σ δ : ℕ → ℕ) → Row W n s limit scale d σ δ → (t : ℕ) → t < n →
-      (d t ≡ leastTime W n s t) × (σ t ≡ cappedWays W n s limit t) × (δ t ≡ openShare W n s limit scale t)
-  row-right d σ δ R =
-      row-unique
-      W
-      n
-      s
-      limit
-      scale
-      d
-      σ
-      δ
-      (leastTime W n s)
-      (cappedWays W n s limit)
-      (openShare W n s limit scale)
-      R
-      row
+    -- so every row that meets the equations holds them
+    pub row-right : (d σ δ : ℕ → ℕ) → Row W n s limit scale d σ δ → (t : ℕ) → t < n →
+        (d t ≡ leastTime W n s t) × (σ t ≡ cappedWays W n s limit t) × (δ t ≡ openShare W n s limit scale t)
+    row-right d σ δ R =
+        row-unique
+        W
+        n
+        s
+        limit
+        scale
+        d
+        σ
+        δ
+        (leastTime W n s)
+        (cappedWays W n s limit)
+        (openShare W n s limit scale)
+        R
+        row

@@ -193,10 +193,6 @@ flow-zero n p f h = sumTo-zero n (λ i l. zero-or (p i) (h i l))
 pub flow-le : (n : ℕ) (p : ℕ → Bool) (f g : ℕ → ℕ) → ((i : ℕ) → i < n → p i ≡ true → f i ≤ g i) → flow n p f ≤ flow n p g
 flow-le n p f g h = sumTo-le n (λ i l. cond-le (p i) (h i l))
 
--- a member that passes is at most the flow
-pub flow-member : (n : ℕ) (p : ℕ → Bool) (f : ℕ → ℕ) (i : ℕ) → i < n → p i ≡ true → f i ≤ flow n p f
-flow-member n p f i l e = omega (arith, member-le n (λ i. cond (p i) (f i) 0) i l, cond-true (f i) 0 e)
-
 -- a flow of sums
 pub flow-add : (n : ℕ) (p : ℕ → Bool) (f g : ℕ → ℕ) → flow n p (λ i. f i + g i) ≡ flow n p f + flow n p g
 flow-add n p f g =
@@ -209,13 +205,13 @@ flow-mul n c p f =
 
 -- a sum of flows is a flow of sums
 pub flow-sum : (n m : ℕ) (p : ℕ → Bool) (f : ℕ → ℕ → ℕ) →
-  sumTo m (λ j. flow n p (λ i. f i j)) ≡ flow n p (λ i. sumTo m (f i))
+    sumTo m (λ j. flow n p (λ i. f i j)) ≡ flow n p (λ i. sumTo m (f i))
 flow-sum n m p f =
     sumTo-swap m n (λ j i. cond (p i) (f i j) 0) ∙ sumTo-cong n (λ i l. sym (cond-sum (p i) m (f i)))
 
 -- two flows change places
 pub flow-swap : (n m : ℕ) (p q : ℕ → Bool) (f : ℕ → ℕ → ℕ) →
-  flow n p (λ i. flow m q (λ j. f i j)) ≡ flow m q (λ j. flow n p (λ i. f i j))
+    flow n p (λ i. flow m q (λ j. f i j)) ≡ flow m q (λ j. flow n p (λ i. f i j))
 flow-swap n m p q f =
     sumTo-cong
     n
@@ -236,11 +232,12 @@ is-false false h = refl
 -- a sum of members up to c, of which one is zero, leaves room for one more
 pub sumTo-bound-but : (n c k : ℕ) (f : ℕ → ℕ) → k < n → f k ≡ 0 → ((i : ℕ) → i < n → f i ≤ c) → sumTo n f + c ≤ n * c
 sumTo-bound-but n c k f l z h =
-    omega
-    (arith,
-    sumTo-bound n c {f = λ i. f i + cond (eqb i k) c 0} (λ i m. room i m (eqb i k) refl),
-    sumTo-add n f (λ i. cond (eqb i k) c 0),
-    sumTo-pick n k (λ i. c) l)
+    omega (
+      arith,
+      sumTo-bound n c {f = λ i. f i + cond (eqb i k) c 0} (λ i m. room i m (eqb i k) refl),
+      sumTo-add n f (λ i. cond (eqb i k) c 0),
+      sumTo-pick n k (λ i. c) l,
+    )
   where
     room : (i : ℕ) → i < n → (b : Bool) → eqb i k ≡ b → f i + cond b c 0 ≤ c
     room i m true e = omega (arith, ap f (eqb-true i k e))

@@ -1,6 +1,6 @@
 -- A row of times, ways and shares is the only one that meets its equations. Assumes nothing.
 use Prim.Native.Nat.{ℕ, suc, _+_, _*_, _<_, _≤_, min}
-use mathlib.Core.Path.{_≡_, refl, sym, _∙_, ap, ap₂}
+use mathlib.Core.Path.{_≡_, sym, _∙_, ap, ap₂}
 use mathlib.Core.Logic.{_≢_}
 use mathlib.Core.Bool.{true}
 use native.Mathlib.Nat.{le-antisymm}
@@ -12,7 +12,17 @@ use Rattle.routes.specs.Tight.{Tight, tight-true, SameTight, same-tight,
 
 -- relaxed times are nowhere above supported times
 pub times-le : (W : Costs) (n s : ℕ) (d d′ : ℕ → ℕ) → Times W n s d → Times W n s d′ → (t : ℕ) → t < n → d t ≤ d′ t
-times-le W n s d d′ T T′ = up-ind d′ n (λ t l ih. elim (ℕ-discrete t s) [ yes p ↦ omega (arith, ap d p, T .source) | no p ↦ elim (ℕ-discrete (d′ t) mark) [ yes q ↦ omega (arith, T .bounded t l) | no q ↦ over t l ih (T′ .supported t l p q) ] ])
+times-le W n s d d′ T T′ =
+    up-ind
+    d′
+    n
+    (λ t l ih. elim (ℕ-discrete t s) [
+      | yes p ↦ omega (arith, ap d p, T .source)
+      | no p ↦ elim (ℕ-discrete (d′ t) mark) [
+        | yes q ↦ omega (arith, T .bounded t l)
+        | no q ↦ over t l ih (T′ .supported t l p q)
+      ]
+    ])
   where
     over : (t : ℕ) → t < n → ((u : ℕ) → u < n → d′ u < d′ t → d u ≤ d′ u) →
         (u : ℕ) × (u < n) × (tight W d′ u t ≡ true) → d t ≤ d′ t
@@ -28,17 +38,55 @@ times-unique W n s d d′ T T′ t l = le-antisymm (times-le W n s d d′ T T′
 
 module _ (W : Costs) (d : ℕ → ℕ) (W′ : Costs) (d′ : ℕ → ℕ) (n : ℕ) (same : SameTight W d W′ d′ n) where
   -- E2 has one solution
-  pub counts-unique : (s limit : ℕ) (σ σ′ : ℕ → ℕ) → Counts W n s limit d σ → Counts W′ n s limit d′ σ′ → (t : ℕ) → t < n → σ t ≡ σ′ t
+  pub counts-unique : (s limit : ℕ) (σ σ′ : ℕ → ℕ) → Counts W n s limit d σ → Counts W′ n s limit d′ σ′ →
+      (t : ℕ) → t < n → σ t ≡ σ′ t
   counts-unique s limit σ σ′ C C′ =
-      inflow-unique W d W′ d′ n same (λ t x. min (suc limit) x) s σ σ′ (C .source ∙ sym (C′ .source)) (C .summed) (C′ .summed)
+      inflow-unique
+      W
+      d
+      W′
+      d′
+      n
+      same
+      (λ t x. min (suc limit) x)
+      s
+      σ
+      σ′
+      (C .source ∙ sym (C′ .source))
+      (C .summed)
+      (C′ .summed)
 
   -- E3 has one solution
-  pub shares-unique : (s limit scale : ℕ) (σ ψ δ σ′ ψ′ δ′ : ℕ → ℕ) → ((t : ℕ) → t < n → d t ≤ mark) → ((t : ℕ) → t < n → σ t ≡ σ′ t) →
-    Shares W n s limit scale d σ ψ δ → Shares W′ n s limit scale d′ σ′ ψ′ δ′ → (v : ℕ) → v < n → (ψ v ≡ ψ′ v) × (δ v ≡ δ′ v)
-  shares-unique s limit scale σ ψ δ σ′ ψ′ δ′ top e S S′ v l = (flow v l, elim (ℕ-discrete v s) [ yes p ↦ ap δ p ∙ S .source ∙ sym (ap δ′ p ∙ S′ .source) | no p ↦ S .shared v l p ∙ ap₂ _*_ (e v l) (outflow-cong W d W′ d′ n same ψ ψ′ v l (λ w k r. flow w k)) ∙ sym (S′ .shared v l p) ])
+  pub shares-unique : (s limit scale : ℕ) (σ ψ δ σ′ ψ′ δ′ : ℕ → ℕ) → ((t : ℕ) → t < n → d t ≤ mark) →
+      ((t : ℕ) → t < n → σ t ≡ σ′ t) → Shares W n s limit scale d σ ψ δ → Shares W′ n s limit scale d′ σ′ ψ′ δ′ →
+      (v : ℕ) → v < n → (ψ v ≡ ψ′ v) × (δ v ≡ δ′ v)
+  shares-unique s limit scale σ ψ δ σ′ ψ′ δ′ top e S S′ v l = (
+    back v l,
+    elim (ℕ-discrete v s) [
+      | yes p ↦ ap δ p ∙ S .source ∙ sym (ap δ′ p ∙ S′ .source)
+      | no p ↦
+          S .shared v l p
+          ∙ ap₂ _*_ (e v l) (outflow-cong W d W′ d′ n same ψ ψ′ v l (λ w k r. back w k))
+          ∙ sym (S′ .shared v l p)
+    ],
+  )
     where
-      flow : (v : ℕ) → v < n → ψ v ≡ ψ′ v
-      flow = outflow-unique W d W′ d′ n same (λ v x. quotient limit scale (σ v) + x) ψ ψ′ mark top (S .flowing) (λ v l. S′ .flowing v l ∙ ap (λ y. quotient limit scale y + outflow W′ n d′ ψ′ v) (sym (e v l)))
+      back : (v : ℕ) → v < n → ψ v ≡ ψ′ v
+      back =
+          outflow-unique
+          W
+          d
+          W′
+          d′
+          n
+          same
+          (λ v x. quotient limit scale (σ v) + x)
+          ψ
+          ψ′
+          mark
+          top
+          (S .flowing)
+          (λ v l. S′ .flowing v l ∙ ap (λ y. quotient limit scale y + outflow W′ n d′ ψ′ v) (sym (e v l)))
 
 -- a row of times, ways up to the limit and shares that meets the equations, with some ψ
 pub record Row (W : Costs) (n s limit scale : ℕ) (d σ δ : ℕ → ℕ) : Type 0 where
@@ -48,14 +96,43 @@ pub record Row (W : Costs) (n s limit scale : ℕ) (d σ δ : ℕ → ℕ) : Typ
   pub shares : Shares W n s limit scale d σ ψ δ
 
 -- there is one row
-pub row-unique : (W : Costs) (n s limit scale : ℕ) (d σ δ d′ σ′ δ′ : ℕ → ℕ) → Row W n s limit scale d σ δ → Row W n s limit scale d′ σ′ δ′ →
-  (t : ℕ) → t < n → (d t ≡ d′ t) × (σ t ≡ σ′ t) × (δ t ≡ δ′ t)
-row-unique W n s limit scale d σ δ d′ σ′ δ′ R R′ t l =
-    (time t l, count t l, shares-unique W d W d′ n tight s limit scale σ (R .ψ) δ σ′ (R′ .ψ) δ′ (R .times .bounded) count (R .shares) (R′ .shares) t l .1)
+module _
+    (W : Costs)
+    (n s limit scale : ℕ)
+    (d σ δ d′ σ′ δ′ : ℕ → ℕ)
+    (R : Row W n s limit scale d σ δ)
+    (R′ : Row W n s limit scale d′ σ′ δ′)
   where
-    time : (t : ℕ) → t < n → d t ≡ d′ t
-    time = times-unique W n s d d′ (R .times) (R′ .times)
-    tight : SameTight W d W d′ n
-    tight = same-tight W d d′ n time
-    count : (t : ℕ) → t < n → σ t ≡ σ′ t
-    count = counts-unique W d W d′ n tight s limit σ σ′ (R .counts) (R′ .counts)
+    row-times : (t : ℕ) → t < n → d t ≡ d′ t
+    row-times = times-unique W n s d d′ (R .times) (R′ .times)
+
+    row-counts : (t : ℕ) → t < n → σ t ≡ σ′ t
+    row-counts = counts-unique W d W d′ n (same-tight W d d′ n row-times) s limit σ σ′ (R .counts) (R′ .counts)
+
+    pub row-unique : (t : ℕ) → t < n → (d t ≡ d′ t) × (σ t ≡ σ′ t) × (δ t ≡ δ′ t)
+    row-unique t l = (
+      row-times t l,
+      row-counts t l,
+      shares-unique
+          W
+          d
+          W
+          d′
+          n
+          (same-tight W d d′ n row-times)
+          s
+          limit
+          scale
+          σ
+          (R .ψ)
+          δ
+          σ′
+          (R′ .ψ)
+          δ′
+          (R .times .bounded)
+          row-counts
+          (R .shares)
+          (R′ .shares)
+          t
+          l .1,
+    )
