@@ -52,7 +52,7 @@ pub record Edited (n u v : ℕ) (t t′ : Tables) (a : Answer) : Type 0 where
       getD (t .score) x 0 + sumTo n (λ s. cond (has (a .touched) s) (entry n (t′ .share) s x) 0)
 
 -- demand 3, for five tables `found` of any content that an accepted empty hall fills
-pub Demand3 : Type 0
+unfoldable pub Demand3 : Type 0
 Demand3 = (N : ℕ) (found : Tables) (calls : List Call) →
     let tables : List Call → Tables = λ made. run after (record { n = N; ask = emptyHall } ∷ made) found in
     let book : Book = record { stops = N; links = replicate (N * N) 0 } in

@@ -11,6 +11,7 @@ pub mod Listing
 pub mod Times
 pub mod Ways
 pub mod Used
+pub mod Triangle
 pub mod Unique
 pub mod Flows
 pub mod Paths
@@ -18,4 +19,8 @@ pub mod Shared
 pub mod Bounds
 pub mod Transfer
 pub mod Useful
+pub mod Cheaper
+pub mod Touched
+pub mod Product
 pub mod Bits
+pub mod Rows

@@ -1,36 +1,17 @@
 -- A row of times, ways and shares is the only one that meets its equations. Assumes nothing.
 use Prim.Native.Nat.{ℕ, suc, _+_, _*_, _<_, _≤_, min}
 use mathlib.Core.Path.{_≡_, sym, _∙_, ap, ap₂}
-use mathlib.Core.Logic.{_≢_}
-use mathlib.Core.Bool.{true}
 use native.Mathlib.Nat.{le-antisymm}
 use native.Mathlib.Decide.{ℕ-discrete}
 use native.Mathlib.Omega.{arith}
 use Rattle.routes.specs.Route.{Costs, mark}
-use Rattle.routes.specs.Equations.{Times, Counts, Shares, tight, outflow, quotient}
-use Rattle.routes.specs.Tight.{Tight, tight-true, SameTight, same-tight, up-ind, inflow-unique, outflow-unique, outflow-cong}
+use Rattle.routes.specs.Equations.{Times, Counts, Shares, outflow, quotient}
+use Rattle.routes.specs.Triangle.{triangle}
+use Rattle.routes.specs.Tight.{SameTight, same-tight, inflow-unique, outflow-unique, outflow-cong}
 
 -- relaxed times are nowhere above supported times
 pub times-le : (W : Costs) (n s : ℕ) (d d′ : ℕ → ℕ) → Times W n s d → Times W n s d′ → (t : ℕ) → t < n → d t ≤ d′ t
-times-le W n s d d′ T T′ =
-    up-ind
-    d′
-    n
-    (λ t l ih. elim (ℕ-discrete t s) [
-      | yes p ↦ omega (arith, ap d p, T .source)
-      | no p ↦ elim (ℕ-discrete (d′ t) mark) [
-        | yes q ↦ omega (arith, T .bounded t l)
-        | no q ↦ over t l ih (T′ .supported t l p q)
-      ]
-    ])
-  where
-    over : (t : ℕ) → t < n → ((u : ℕ) → u < n → d′ u < d′ t → d u ≤ d′ u) →
-        (u : ℕ) × (u < n) × (tight W d′ u t ≡ true) → d t ≤ d′ t
-    over t l ih (u, k, e) =
-        let f : Tight W d′ u t = tight-true W d′ u t e in
-        let below : d u ≤ d′ u = ih u k (f .rises) in
-        let reached : d u ≢ mark = omega (arith, T′ .bounded u k) in
-        omega (arith, T .relaxed u t k l (f .linked) reached)
+times-le W n s d d′ T T′ t l = omega (arith, T .source, triangle W n s s d d′ T T′ t l)
 
 -- E1 has one solution
 pub times-unique : (W : Costs) (n s : ℕ) (d d′ : ℕ → ℕ) → Times W n s d → Times W n s d′ → (t : ℕ) → t < n → d t ≡ d′ t

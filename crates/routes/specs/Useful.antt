@@ -1,18 +1,18 @@
 -- A link that costs more than the least time between its ends is on no quickest route: leaving all of them out changes no row.
 -- Assumes nothing.
-use Prim.Native.Nat.{ℕ, _+_, _*_, _<_, _≤_}
-use mathlib.Core.Path.{_≡_, refl, sym, _∙_, ap}
+use Prim.Native.Nat.{ℕ, _*_, _<_, _≤_}
+use mathlib.Core.Path.{_≡_, refl, sym, _∙_}
 use mathlib.Core.Logic.{_≢_}
 use mathlib.Core.Bool.{Bool, true, false, cond}
 use native.Mathlib.Nat.{le-trans}
-use native.Mathlib.Decide.{ℕ-discrete}
 use native.Mathlib.Omega.{arith}
 use lib.Dec.{eqb}
 use borrow.Author.Tests.{eqb-false, ltb-true}
 use Rattle.routes.specs.Route.{Costs, mark, leastTime, used}
 use Rattle.routes.specs.Equations.{Times, Within, tight}
 use Rattle.routes.specs.Sums.{is-false, cond-true, cond-false}
-use Rattle.routes.specs.Tight.{Tight, tight-true, up-ind}
+use Rattle.routes.specs.Triangle.{triangle}
+use Rattle.routes.specs.Tight.{Tight, tight-true}
 use Rattle.routes.specs.Times.{times}
 use Rattle.routes.specs.Used.{used-is-tight}
 use Rattle.routes.specs.Flows.{flows}
@@ -21,26 +21,6 @@ use Rattle.routes.specs.Transfer.{SameRow, Loose, transfer}
 -- the useful links: those that cost the least time between their ends
 unfoldable pub useful : Costs → ℕ → Costs
 useful W n u v = cond (eqb (W u v) (leastTime W n u v)) (W u v) 0
-
--- a way over u is no quicker than the least time
-pub triangle : (W : Costs) (n s u : ℕ) (d e : ℕ → ℕ) → Times W n s d → Times W n u e → (t : ℕ) → t < n → d t ≤ d u + e t
-triangle W n s u d e T U =
-    up-ind e n (λ t l ih. elim (ℕ-discrete t u) [
-      | yes p ↦ omega (arith, ap d p)
-      | no p ↦ elim (ℕ-discrete (e t) mark) [
-        | yes q ↦ omega (arith, T .bounded t l)
-        | no q ↦ over t l ih (U .supported t l p q)
-      ]
-    ])
-  where
-    over : (t : ℕ) → t < n → ((x : ℕ) → x < n → e x < e t → d x ≤ d u + e x) →
-        (x : ℕ) × (x < n) × (tight W e x t ≡ true) → d t ≤ d u + e t
-    over t l ih (x, m, h) =
-        let f : Tight W e x t = tight-true W e x t h in
-        elim (ℕ-discrete (d x) mark) [
-          | yes p ↦ omega (arith, ih x m (f .rises), T .bounded t l)
-          | no p ↦ omega (arith, ih x m (f .rises), T .relaxed x t m l (f .linked) p)
-        ]
 
 -- a link that is tight by the times of any source costs the least time between its ends
 pub tight-useful : (W : Costs) (n s u v : ℕ) (d e : ℕ → ℕ) → u < n → v < n →
