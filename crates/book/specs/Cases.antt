@@ -63,7 +63,7 @@ cases =
     case 4 (diamond ++ edit Cheapen 2 3 4 ∷ []) (0 ∷ 0 ∷ 0 ∷ 0 ∷ 0 ∷ 8 ∷ 0 ∷ []) (0 ∷ 1 ∷ 1 ∷ 2 ∷ 2 ∷ 0 ∷ 2 ∷ []) (0 ∷ 0 ∷ scale ∷ 0 ∷ []) ∷
     -- P3: then it closes
     case 4 (diamond ++ edit Cheapen 2 3 4 ∷ edit Delete 2 3 0 ∷ []) (0 ∷ 0 ∷ 0 ∷ 0 ∷ 0 ∷ 8 ∷ 0 ∷ 0 ∷ []) (0 ∷ 1 ∷ 1 ∷ 2 ∷ 2 ∷ 0 ∷ 2 ∷ 2 ∷ []) (0 ∷ scale ∷ 0 ∷ 0 ∷ []) ∷
-    -- P4: one stop has no link (edit-of-one, in Sequence, says it of every edit)
+    -- P4: one stop has no link (edit-alone, in Passed, says it of every edit)
     case 1 (edit Insert 0 0 5 ∷ edit Insert 0 1 5 ∷ edit Cheapen 0 0 0 ∷ edit Delete 7 9 0 ∷ []) (0 ∷ 4 ∷ 4 ∷ 4 ∷ 4 ∷ []) (0 ∷ 0 ∷ 0 ∷ 0 ∷ 0 ∷ []) (0 ∷ []) ∷
     -- P5: no stop is no hall
     case 0 (edit Insert 0 1 5 ∷ []) (1 ∷ 1 ∷ []) (0 ∷ 0 ∷ []) [] ∷

@@ -2,3 +2,15 @@ pub mod Hall
 pub mod Call
 pub mod Book
 pub mod Cases
+pub mod TableLaws
+pub mod ByteLaws
+pub mod RecordLaws
+pub mod WriterLaws
+pub mod ImageLaws
+pub mod NoLinks
+pub mod Filled
+pub mod Passed
+pub mod Steps
+pub mod AuditLaws
+pub mod Edits
+pub mod Sequence

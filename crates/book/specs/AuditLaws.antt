@@ -1,0 +1,66 @@
+-- The audit accepts exactly the tables that work out fills. Assumes nothing.
+use Prim.Native.Nat.{ℕ}
+use mathlib.Core.Path.{_≡_, refl, sym, _∙_, ap, subst}
+use mathlib.Core.Logic.{_↔_}
+use mathlib.Core.Bool.{Bool, true, false}
+use mathlib.Core.List.{List}
+use borrow.Author.Tests.{eq-eqb}
+use Rattle.book.specs.Hall.{Tables, mostStops, mostWays, scale, upTo, filled, sized, validCosts, uncrowded, right}
+use Rattle.book.specs.Call.{audit, workOut, accepted, need, rule, refusal, after}
+use Rattle.book.specs.declared.Refusal.the-variants.{Accepted, BadTables}
+use Rattle.book.specs.Filled.{sized-filled, sized-cost, right-filled, right-true}
+use Rattle.book.specs.Passed.{need-true, passed}
+use Rattle.book.specs.Steps.{worked-held, held-worked}
+
+-- valid costs without a crowded pair, and their tables
+abbrev pub Right : ℕ → Tables → Type 0
+Right n t = (validCosts n (t .cost) ≡ true) × (uncrowded mostWays n (t .cost) ≡ true) × (filled scale n (t .cost) ≡ t)
+
+module _ (n : ℕ) (t : Tables) (size : upTo mostStops n ≡ true) (lengths : sized n t ≡ true) where
+  audit-right : refusal (record { n = n; ask = audit }) t ≡ need (right scale mostWays n t) BadTables Accepted
+  unfolding refusal rule
+  audit-right = rw (size, lengths)
+
+  -- of the tables with these lengths it accepts exactly the right ones
+  pub audit-accepts : (refusal (record { n = n; ask = audit }) t ≡ Accepted) ↔ Right n t
+  audit-accepts = (
+    λ e. right-true scale mostWays n t (need-true (right scale mostWays n t) BadTables Accepted refl (ap accepted (sym audit-right ∙ e)) .0),
+    λ r. let passes = subst (λ x. right scale mostWays n x ≡ true) (r .2) (right-filled scale mostWays n (t .cost) (r .0) (r .1)) in
+        audit-right ∙ ap (λ b. need b BadTables Accepted) passes,
+  )
+
+  -- and any others are 3
+  pub audit-refuses : (Right n t → ⊥) → refusal (record { n = n; ask = audit }) t ≡ BadTables
+  audit-refuses h = audit-right ∙ go (right scale mostWays n t) refl
+    where
+      go : (b : Bool) → right scale mostWays n t ≡ b → need b BadTables Accepted ≡ BadTables
+      go true e = absurd (h (right-true scale mostWays n t e))
+      go false e = refl
+
+  -- these are the tables whose costs work out accepts and which it leaves as they are
+  pub audit-work-out : (refusal (record { n = n; ask = audit }) t ≡ Accepted) ↔
+      ((refusal (record { n = n; ask = workOut (t .cost) }) t ≡ Accepted) × (after (record { n = n; ask = workOut (t .cost) }) t ≡ t))
+  unfolding after rule
+  audit-work-out = (there, back)
+    where
+      there : refusal (record { n = n; ask = audit }) t ≡ Accepted →
+          (refusal (record { n = n; ask = workOut (t .cost) }) t ≡ Accepted) × (after (record { n = n; ask = workOut (t .cost) }) t ≡ t)
+      there e =
+          let (valid, few, same) = audit-accepts .0 e in
+          let ok = held-worked n (t .cost) t (record { size = size; square = sized-cost n t lengths; valid = valid; few = few }) lengths in
+          (ok, rw ok same)
+
+      back : (refusal (record { n = n; ask = workOut (t .cost) }) t ≡ Accepted) × (after (record { n = n; ask = workOut (t .cost) }) t ≡ t) →
+          refusal (record { n = n; ask = audit }) t ≡ Accepted
+      back (ok, same) =
+          let h = worked-held n (t .cost) (t .cost) size (passed (record { n = n; ask = workOut (t .cost) }) t ok .2) in
+          audit-accepts .1 (h .valid, h .few, rw ok at same)
+
+-- what an accepted work out leaves passes
+pub audit-worked : (n : ℕ) (cost : List ℕ) (t : Tables) → refusal (record { n = n; ask = workOut cost }) t ≡ Accepted →
+    refusal (record { n = n; ask = audit }) (after (record { n = n; ask = workOut cost }) t) ≡ Accepted
+unfolding after rule filled
+audit-worked n cost t e =
+    let (size, lengths, tests) = passed (record { n = n; ask = workOut cost }) t e in
+    let h = worked-held n cost (t .cost) size tests in
+    rw e (audit-accepts n (filled scale n cost) size (sized-filled scale n n cost (h .square) ∙ eq-eqb n n refl) .1 (h .valid, h .few, refl))

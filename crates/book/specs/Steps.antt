@@ -1,0 +1,190 @@
+-- One call on the tables of a book: it is refused, leaves and answers what the book says. Assumes nothing.
+use Prim.Native.Nat.{ℕ, _+_, _*_, _<_, _≤_}
+use mathlib.Core.Path.{_≡_, refl, sym, _∙_, ap, subst}
+use mathlib.Core.Logic.{_≢_}
+use mathlib.Core.Bool.{Bool, true, false, cond, not, _&&_, _||_, or-true}
+use mathlib.Core.List.{List}
+use lib.Dec.{eqb, ltb, leb, lit<}
+use lib.ListN.{length, set, replicate, length-set, length-replicate}
+use borrow.Author.Tests.{eqb-true, eq-eqb}
+use Rattle.routes.specs.Booleans.{both}
+use Rattle.book.specs.Hall.{Tables, mostStops, largestCost, mostWays, scale, upTo, entry, filled, sized, validPair, validCosts, uncrowded, right, imageOf, isImage, costsOf}
+use Rattle.book.specs.Call.{Ask, emptyHall, audit, workOut, edit, imageWrite, imageRead, Call, number, accepted, need, costTests, waysTest, edited, Rule, rule, refusal, after, answer}
+use Rattle.book.specs.Book.{Book, bookRefusal, bookAfter, bookAnswer}
+use Rattle.book.specs.declared.Kind.{Kind}
+use Rattle.book.specs.declared.Kind.the-variants.{Insert, Cheapen, Delete}
+use Rattle.book.specs.declared.Refusal.{Refusal}
+use Rattle.book.specs.declared.Refusal.the-variants.{Accepted, BadSize, BadLength, BadTables, BadStop, BadCost, LinkPresent, LinkAbsent, NotCheaper, BadImage, ShortBuffer, TooManyWays}
+use Rattle.book.specs.TableLaws.{entry-set, Valid, valid-costs, costs-valid}
+use Rattle.book.specs.ImageLaws.{length-read, read-valid}
+use Rattle.book.specs.NoLinks.{valid-none, uncrowded-none}
+use Rattle.book.specs.Filled.{sized-filled, right-filled}
+use Rattle.book.specs.Passed.{need-true, newCost, Permitted, permitted}
+
+-- what holds of a book's N and links at every point of a sequence
+pub record Held (n : ℕ) (cost : List ℕ) : Type 0 where
+  pub size : upTo mostStops n ≡ true
+  pub square : length cost ≡ n * n
+  pub valid : validCosts n cost ≡ true
+  pub few : uncrowded mostWays n cost ≡ true
+
+-- it holds where there are no links
+pub held-none : (n : ℕ) → upTo mostStops n ≡ true → Held n (replicate (n * n) 0)
+held-none n size = record { size = size; square = length-replicate (n * n) 0; valid = valid-none n; few = uncrowded-none mostWays n (lit< tt) }
+
+-- of costs with which work out passes its tests, and work out accepts those of which it holds
+pub worked-held : (n : ℕ) (c cost : List ℕ) → upTo mostStops n ≡ true → accepted (rule n (workOut c) cost .tests) ≡ true → Held n c
+unfolding rule
+worked-held n c cost size e =
+    let (square, e₁) = need-true (eqb (length c) (n * n)) BadLength _ refl e in
+    let (valid, e₂) = need-true (validCosts n c) BadCost _ refl e₁ in
+    let (few, e₃) = need-true (uncrowded mostWays n c) TooManyWays Accepted refl e₂ in
+    record { size = size; square = eqb-true (length c) (n * n) square; valid = valid; few = few }
+
+pub held-worked : (n : ℕ) (c : List ℕ) (t : Tables) → Held n c → sized n t ≡ true → refusal (record { n = n; ask = workOut c }) t ≡ Accepted
+unfolding refusal rule
+held-worked n c t h s = rw (h .size, s, h .square, eq-eqb (n * n) (n * n) refl, h .valid, h .few)
+
+edited-set : (k : Kind) (n u v c : ℕ) (cost : List ℕ) → edited k n u v c cost ≡ set cost (u * n + v) (newCost k c)
+edited-set Insert n u v c cost = refl
+edited-set Cheapen n u v c cost = refl
+edited-set Delete n u v c cost = refl
+
+module _ (n : ℕ) (k : Kind) (u v c : ℕ) (cost : List ℕ) (h : Held n cost) (p : Permitted n k u v c cost) where
+  -- an edit leaves the new cost at its link, and the others as they were
+  pub entry-edited : (s t : ℕ) → t < n → entry n (edited k n u v c cost) s t ≡ cond (eqb u s && eqb v t) (newCost k c) (entry n cost s t)
+  entry-edited s t ht = rw (edited-set k n u v c cost) (entry-set n cost u v (newCost k c) s t (h .square) (p .from) (p .to) ht)
+
+  pub held-edited : Held n (edited k n u v c cost)
+  held-edited =
+      let square : length (edited k n u v c cost) ≡ n * n = rw (edited-set k n u v c cost) (length-set cost _ _ ∙ h .square) in
+      record { size = h .size; square = square; valid = costs-valid n (edited k n u v c cost) valid; few = p .few }
+    where
+      old : Valid n (entry n cost)
+      old = valid-costs n cost (h .valid)
+
+      most : (a : Bool) (s t : ℕ) → s < n → t < n → cond a (newCost k c) (entry n cost s t) ≤ largestCost
+      most true s t hs ht = p .fits
+      most false s t hs ht = old .most s t hs ht
+
+      own : (s : ℕ) (a b : Bool) → eqb u s ≡ a → eqb v s ≡ b → s < n → cond (a && b) (newCost k c) (entry n cost s s) ≡ 0
+      own s true true e f hs = absurd (p .apart (eqb-true u s e ∙ sym (eqb-true v s f)))
+      own s true false e f hs = old .own s hs
+      own s false b e f hs = old .own s hs
+
+      valid : Valid n (entry n (edited k n u v c cost))
+      valid =
+          record {
+            most = λ s t hs ht. rw (entry-edited s t ht) (most (eqb u s && eqb v t) s t hs ht);
+            own = λ s hs. rw (entry-edited s s hs) (own s (eqb u s) (eqb v s) refl refl hs);
+          }
+
+-- a call that passes its tests leaves costs of which it holds again
+rule-held : (n : ℕ) (ask : Ask) (cost : List ℕ) → Held n cost → accepted (rule n ask cost .tests) ≡ true → Held n (rule n ask cost .left)
+unfolding rule
+rule-held n emptyHall cost h e = held-none n (h .size)
+rule-held n audit cost h e = h
+rule-held n (workOut c) cost h e = worked-held n c cost (h .size) e
+rule-held n (edit k u v c) cost h e = held-edited n k u v c cost h (permitted n k u v c cost e)
+rule-held n (imageWrite buffer) cost h e = h
+rule-held n (imageRead image) cost h e =
+    let (is, e₁) = need-true (isImage n image) BadImage _ refl e in
+    let (few, e₂) = need-true (uncrowded mostWays n (costsOf n image)) TooManyWays Accepted refl e₁ in
+    record { size = h .size; square = length-read n image; valid = read-valid n image is; few = few }
+
+-- the tables of a book
+abbrev pub tablesOf : Book → Tables
+tablesOf b = filled scale (b .stops) (b .links)
+
+module _ (c : Call) (b : Book) where
+  -- a call that the book accepts has its N, and passes its own tests
+  pub accepted-book : accepted (bookRefusal c b) ≡ true → (c .n ≡ b .stops) × (accepted (rule (c .n) (c .ask) (b .links) .tests) ≡ true)
+  unfolding bookRefusal
+  accepted-book e =
+      let (size, e₁) = need-true (upTo mostStops (c .n)) BadSize _ refl e in
+      let (same, e₂) = need-true (eqb (c .n) (b .stops)) BadLength _ refl e₁ in
+      (eqb-true (c .n) (b .stops) same, e₂)
+
+  module _ (h : Held (b .stops) (b .links)) where
+    -- the book's tables have the lengths for N alone and pass the audit, so they refuse what the book refuses
+    pub refusal-book : refusal c (tablesOf b) ≡ bookRefusal c b
+    unfolding refusal bookRefusal filled
+    refusal-book =
+        rw (sized-filled scale (c .n) (b .stops) (b .links) (h .square)) (ap (need (upTo mostStops (c .n)) BadSize) (go (eqb (c .n) (b .stops)) refl))
+      where
+        r : Rule
+        r = rule (c .n) (c .ask) (b .links)
+
+        go : (x : Bool) → eqb (c .n) (b .stops) ≡ x →
+            need x BadLength (need (not (r .audits) || right scale mostWays (c .n) (tablesOf b)) BadTables (r .tests)) ≡ need x BadLength (r .tests)
+        go true e =
+            let passes : right scale mostWays (c .n) (tablesOf b) ≡ true =
+            rw (eqb-true (c .n) (b .stops) e) (right-filled scale mostWays (b .stops) (b .links) (h .valid) (h .few)) in
+            rw (passes, or-true)
+        go false e = refl
+
+    -- the call leaves the tables of the book after it
+    pub after-book : after c (tablesOf b) ≡ tablesOf (bookAfter c b)
+    unfolding after bookAfter filled
+    after-book = rw refusal-book (go (accepted (bookRefusal c b)) refl)
+      where
+        left : List ℕ
+        left = rule (c .n) (c .ask) (b .links) .left
+
+        go : (x : Bool) → accepted (bookRefusal c b) ≡ x → cond x (filled scale (c .n) left) (tablesOf b) ≡ filled scale (b .stops) (cond x left (b .links))
+        go true e = ap (λ n. filled scale n left) (accepted-book e .0)
+        go false e = refl
+
+    -- it answers what the book answers
+    pub answer-book : answer c (tablesOf b) ≡ bookAnswer c b
+    unfolding answer bookAnswer filled
+    answer-book = rw refusal-book
+
+    pub held-after : Held (bookAfter c b .stops) (bookAfter c b .links)
+    unfolding bookAfter
+    held-after = go (accepted (bookRefusal c b)) refl
+      where
+        left : List ℕ
+        left = rule (c .n) (c .ask) (b .links) .left
+
+        go : (x : Bool) → accepted (bookRefusal c b) ≡ x → Held (b .stops) (cond x left (b .links))
+        go true e =
+            let (same, tests) = accepted-book e in
+            subst (λ n. Held n left) same (rule-held (c .n) (c .ask) (b .links) (rw same h) tests)
+        go false e = h
+
+-- an answer other than 3
+record Other (r : Refusal) : Type 0 where
+  not-three : eqb (number r) 3 ≡ false
+
+need-other : (p : Bool) (r : Refusal) {next : Refusal} → eqb (number r) 3 ≡ false → Other next → Other (need p r next)
+need-other true r e f = f
+need-other false r e f = record { not-three = e }
+
+ways-other : (n : ℕ) (cost : List ℕ) → Other (waysTest n cost)
+ways-other n cost = need-other (uncrowded mostWays n cost) TooManyWays refl (record { not-three = refl })
+
+cost-other : (k : Kind) (c present : ℕ) {next : Refusal} → Other next → Other (costTests k c present next)
+cost-other Insert c present f = need-other (upTo largestCost c) BadCost refl (need-other (eqb present 0) LinkPresent refl f)
+cost-other Cheapen c present f =
+    need-other (upTo largestCost c) BadCost refl (need-other (ltb 0 present) LinkAbsent refl (need-other (ltb c present) NotCheaper refl f))
+cost-other Delete c present f = need-other (ltb 0 present) LinkAbsent refl f
+
+rule-other : (n : ℕ) (ask : Ask) (cost : List ℕ) → Other (rule n ask cost .tests)
+unfolding rule
+rule-other n emptyHall cost = record { not-three = refl }
+rule-other n audit cost = record { not-three = refl }
+rule-other n (workOut c) cost = need-other (eqb (length c) (n * n)) BadLength refl (need-other (validCosts n c) BadCost refl (ways-other n c))
+rule-other n (edit k u v c) cost =
+    need-other (validPair n u v) BadStop refl (cost-other k c (entry n cost u v) (ways-other n (edited k n u v c cost)))
+rule-other n (imageWrite buffer) cost =
+    need-other (leb (length (imageOf n cost)) (length buffer)) ShortBuffer refl (record { not-three = refl })
+rule-other n (imageRead image) cost = need-other (isImage n image) BadImage refl (ways-other n (costsOf n image))
+
+-- a book never says 3
+pub never-bad : (c : Call) (b : Book) → bookRefusal c b ≢ BadTables
+unfolding bookRefusal
+never-bad c b e =
+    let rest = need-other (eqb (c .n) (b .stops)) BadLength refl (rule-other (c .n) (c .ask) (b .links)) in
+    let other : Other (bookRefusal c b) = need-other (upTo mostStops (c .n)) BadSize refl rest in
+    both (ap (λ r. eqb (number r) 3) e) (other .not-three)
