@@ -1,7 +1,7 @@
 -- The book of document 01, sequences of calls, and demand 3 as a type. Assumes nothing.
 use Prim.Native.Nat.{ℕ, _+_, _*_, _<_}
 use mathlib.Core.Path.{_≡_}
-use mathlib.Core.Bool.{Bool, true, cond, not, _&&_}
+use mathlib.Core.Bool.{Bool, cond, not, _&&_}
 use mathlib.Core.List.{List, [], _∷_, _++_}
 use lib.Dec.{eqb, ltb}
 use lib.ListN.{getD, replicate}
@@ -12,7 +12,7 @@ use Rattle.book.specs.declared.Kind.{Kind}
 use Rattle.book.specs.declared.Refusal.{Refusal}
 use Rattle.book.specs.declared.Refusal.the-variants.{Accepted, BadSize, BadLength}
 
--- N and the present links, as their cost table; it reads calls alone
+-- the book (abstract state): N and the present links, as their cost table; it reads calls alone
 pub record Book : Type 0 where
   pub stops : ℕ
   pub links : List ℕ
@@ -42,7 +42,7 @@ changed n t t′ s =
     not (allTo n (λ x. eqb (entry n (t .time) s x) (entry n (t′ .time) s x) && (eqb (entry n (t .ways) s x) (entry n (t′ .ways) s x) &&
     eqb (entry n (t .share) s x) (entry n (t′ .share) s x))))
 
--- an accepted edit of the link u to v, tables t before and t′ after
+-- an accepted edit of the link u to v, tables t before and t′ after; its set has 64 bits
 pub record Edited (n u v : ℕ) (t t′ : Tables) (a : Answer) : Type 0 where
   pub names : (s : ℕ) → has (a .touched) s ≡ (ltb s n && touched n (t .cost) (t′ .cost) u v s)
   pub counts : a .rows ≡ sumTo 64 (λ s. cond (has (a .touched) s) 1 0)

@@ -1,7 +1,7 @@
 -- The calls of document 01 on any tables: the refusal, the tables after it, and the answer. Assumes nothing.
 use Prim.Native.Nat.{ℕ, _+_, _*_}
 use mathlib.Core.Bool.{Bool, true, false, cond, not, _&&_, _||_}
-use mathlib.Core.List.{List, [], _∷_, _++_}
+use mathlib.Core.List.{List, [], _++_}
 use lib.Dec.{eqb, ltb, leb}
 use lib.ListN.{length, drop, set, replicate}
 use Rattle.routes.specs.Route.{sumTo, setOf}
@@ -29,7 +29,7 @@ number TooManyWays = 11
 abbrev pub accepted : Refusal → Bool
 accepted r = eqb (number r) 0
 
--- a call: its n, and what is asked with what it brings; a delete's cost is not read
+-- what is asked, with what the call brings; a delete's cost is not read
 pub data Ask : Type 0 where
   emptyHall audit : Ask
   workOut : (cost : List ℕ) → Ask
@@ -37,6 +37,7 @@ pub data Ask : Type 0 where
   imageWrite : (buffer : List ℕ) → Ask
   imageRead : (image : List ℕ) → Ask
 
+-- a call brings its n too
 pub record Call : Type 0 where
   pub n : ℕ
   pub ask : Ask
@@ -70,6 +71,7 @@ pub record Rule : Type 0 where
   pub bytes : List ℕ  -- what it writes
   pub buffer : List ℕ  -- the buffer that it writes to
 
+-- a call that touches no source and writes no byte
 abbrev pub plain : Bool → Refusal → List ℕ → Rule
 plain audits tests left = record { audits = audits; tests = tests; left = left; touches = λ s. false; bytes = []; buffer = [] }
 

@@ -11,7 +11,7 @@ use Rattle.book.specs.Call.{Call, Ask, emptyHall, edit, number, rule, An
 use Rattle.book.specs.Book.{run, answers}
 use Rattle.book.specs.declared.Kind.the-variants.{Insert, Cheapen, Delete}
 
--- document 01's numbers: the largest time, the bound of scores, the mark in 32 bits, and every count of ways but the next one divides the scale
+-- document 01's numbers: the largest time, the bound of scores, the mark in 32 bits; 1 to 22 divide the scale, 23 does not
 pub numbers :
     ((mostStops - 1) * largestCost ≡ 4128705) × ((mostStops - 1) * (mostStops - 2) * scale ≡ 909287739360) × (mark + 1 ≡ 2 ^ 32) ×
     (allTo (mostWays + 1) (λ k. eqb (scale % (k + 1)) 0) ≡ false) × (allTo mostWays (λ k. eqb (scale % (k + 1)) 0) ≡ true)

@@ -1,6 +1,7 @@
--- The hall of document 01: its limits, its five tables and what they hold when they are right, and its image. Assumes nothing.
+-- The hall (weighted directed graph) of document 01: its limits, its five tables and what they hold when they are right,
+-- and its image (serialised form). Numbers are unbounded here: an image is a list of bytes where it comes from code. Assumes nothing.
 use Prim.Native.Nat.{ℕ, zero, suc, _+_, _*_, _-_, _/_, _%_}
-use mathlib.Core.Bool.{Bool, true, cond, not, _&&_, _||_}
+use mathlib.Core.Bool.{Bool, cond, not, _&&_, _||_}
 use mathlib.Core.List.{List, [], _∷_, _++_}
 use lib.Dec.{eqb, ltb, leb}
 use lib.ListN.{length, getD}

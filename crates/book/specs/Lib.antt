@@ -2,6 +2,7 @@ pub mod Hall
 pub mod Call
 pub mod Book
 pub mod Cases
+pub mod Corners
 pub mod TableLaws
 pub mod ByteLaws
 pub mod RecordLaws
@@ -14,3 +15,4 @@ pub mod Steps
 pub mod AuditLaws
 pub mod Edits
 pub mod Sequence
+pub mod CallLaws

@@ -1,8 +1,8 @@
 -- The routes of a hall, by listing every one of them, and what document 01 counts over them.
--- A stop (vertex) is a number below n. W u v is the cost of the link (directed edge) u to v, 0 where there is none.
+-- A stop (vertex) is a number below n. W u v is the cost (weight) of the link (directed edge) u to v, 0 where there is none.
 -- A route (simple path) is the list of its stops, the last one first. Assumes nothing.
 use Prim.Native.Nat.{ℕ, zero, suc, _+_, _*_, _/_, _%_, _^_, min}
-use mathlib.Core.Bool.{Bool, true, false, cond, not, _&&_, _||_}
+use mathlib.Core.Bool.{Bool, true, false, cond, _&&_, _||_}
 use mathlib.Core.List.{List, [], _∷_, _++_}
 use lib.Dec.{eqb, ltb}
 
@@ -50,13 +50,14 @@ count p (a ∷ l) = cond (p a) 1 0 + count p l
 abbrev pub Costs : Type 0
 Costs = ℕ → ℕ → ℕ
 
--- the mark: the time where there is no route
+-- the mark: the time where there is no route (infinity)
 abbrev pub mark : ℕ
 mark = 4294967295
 
 abbrev pub link : Costs → ℕ → ℕ → Bool
 link W u v = ltb 0 (W u v)
 
+-- the route passes stop x, its ends included
 unfoldable pub visits : ℕ → List ℕ → Bool
 visits x [] = false
 visits x (y ∷ r) = eqb x y || visits x r

@@ -8,8 +8,9 @@ use Rattle.routes.specs.Route.{Costs, mark, sumTo, joinTo, listTo, count
 abbrev table : ℕ → (ℕ → ℕ → ℕ) → List ℕ
 table n f = joinTo n (λ s. listTo n (f s))
 
+-- a scale that 1 to 3 divide
 abbrev L : ℕ
-L = 232792560
+L = 6
 
 -- Document 01's hall of four stops: two routes of time 10 from 0 to 3, one over 1 and one over 2.
 abbrev pub diamond : Costs

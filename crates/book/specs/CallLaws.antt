@@ -1,0 +1,151 @@
+-- What the demands say of single calls, over `refusal`, `after` and `answer`: exact shares, one stop, work out's own table,
+-- and images written and read. Assumes nothing.
+use Prim.Native.Nat.{ℕ, zero, suc, _*_, _%_, _<_, _≤_, _∣_}
+use native.Mathlib.Nat.{dvd-of-mod-eq-zero, dvd-mul-right-of-dvd, div-mul-cancel, lt-irrefl}
+use mathlib.Core.Path.{_≡_, refl, sym, _∙_, ap}
+use mathlib.Core.Logic.{_≢_}
+use mathlib.Core.Bool.{Bool, true, false, _&&_, and-eq-true-iff, or-true}
+use mathlib.Core.List.{List, [], _∷_, _++_}
+use lib.Dec.{eqb, leb, lit<}
+use lib.ListN.{length, take, drop}
+use lib.Seq.{take-append-seam}
+use borrow.Author.Tests.{eqb-true, eq-eqb, ne-eqb, leb-true, le-leb}
+use Rattle.routes.specs.Route.{Costs, allTo, ways, through, portion}
+use Rattle.routes.specs.Sums.{all-true}
+use Rattle.book.specs.Hall.{Tables, mostStops, mostWays, scale, upTo, filled, sized, validCosts, uncrowded, right, imageOf, isImage, costsOf}
+use Rattle.book.specs.Call.{Call, workOut, edit, imageWrite, imageRead, accepted, need, waysTest, rule, Answer, reply, refusal, after, answer}
+use Rattle.book.specs.ByteLaws.{Bytes}
+use Rattle.book.specs.ImageLaws.{written-read, written-costs, read-written, read-valid, length-read}
+use Rattle.book.specs.Filled.{sized-filled, sized-cost, right-filled, right-true}
+use Rattle.book.specs.Passed.{need-true, passed, edit-alone}
+use Rattle.book.specs.NoLinks.{valid-none, uncrowded-none}
+use Rattle.book.specs.declared.Kind.{Kind}
+use Rattle.book.specs.declared.Refusal.{Refusal}
+use Rattle.book.specs.declared.Refusal.the-variants.{Accepted, BadSize, BadLength, BadTables, BadStop, BadCost, BadImage, TooManyWays}
+
+-- every number of ways that a pair may have divides the scale
+pub whole : (k : ℕ) → 0 < k → k ≤ mostWays → k ∣ scale
+unfolding allTo
+whole zero z h = absurd (lt-irrefl 0 z)
+whole (suc k) z h = dvd-of-mod-eq-zero (suc k) (eqb-true (scale % suc k) 0 (all-true 22 (λ i. eqb (scale % suc i) 0) refl k h))
+
+-- so what a pair adds to a share is exact: times its ways, it is the scale times the ways through v
+pub exact : (W : Costs) (n s v t : ℕ) → 0 < ways W n s t → ways W n s t ≤ mostWays → t ≢ s → t ≢ v →
+    portion W n s scale v t * ways W n s t ≡ scale * through W n s v t
+unfolding portion
+exact W n s v t some few a b =
+    rw (ne-eqb t s a, ne-eqb t v b)
+    (div-mul-cancel (ways W n s t) (dvd-mul-right-of-dvd (ways W n s t) (whole (ways W n s t) some few) (through W n s v t)))
+
+-- every edit of a hall of one stop is 4
+pub one-stop : (k : Kind) (u v c : ℕ) → refusal (record { n = 1; ask = edit k u v c }) (filled scale 1 (0 ∷ [])) ≡ BadStop
+unfolding refusal
+one-stop k u v c =
+    rw (sized-filled scale 1 1 (0 ∷ []) refl, right-filled scale mostWays 1 (0 ∷ []) (valid-none 1) (uncrowded-none mostWays 1 (lit< tt)), or-true)
+    (edit-alone k u v c (filled scale 1 (0 ∷ []) .cost))
+
+-- work out looks at the table that it brings, whatever cost table of its length lies beside it
+abbrev pub bringing : Tables → List ℕ → Tables
+bringing t cost = record { cost = cost; time = t .time; ways = t .ways; share = t .share; score = t .score }
+
+lengths-first : (s x b : Bool) (next : Refusal) →
+    need s BadSize (need x BadLength (need b BadLength next)) ≡ need s BadSize (need (b && x) BadLength (need b BadLength next))
+lengths-first false x b next = refl
+lengths-first true false false next = refl
+lengths-first true false true next = refl
+lengths-first true true false next = refl
+lengths-first true true true next = refl
+
+module _ (n : ℕ) (t : Tables) (cost : List ℕ) (square : length (t .cost) ≡ n * n) where
+  pub brought-refusal : refusal (record { n = n; ask = workOut cost }) t ≡ refusal (record { n = n; ask = workOut cost }) (bringing t cost)
+  unfolding refusal sized rule
+  brought-refusal =
+      rw (square, eq-eqb (n * n) (n * n) refl)
+      (lengths-first (upTo mostStops n)
+      (eqb (length (t .time)) (n * n) && (eqb (length (t .ways)) (n * n) && (eqb (length (t .share)) (n * n) && eqb (length (t .score)) n)))
+      (eqb (length cost) (n * n)) (need (validCosts n cost) BadCost (waysTest n cost)))
+
+  pub brought-answer : answer (record { n = n; ask = workOut cost }) t ≡ answer (record { n = n; ask = workOut cost }) (bringing t cost)
+  unfolding answer rule
+  brought-answer = rw brought-refusal
+
+  pub brought-after : refusal (record { n = n; ask = workOut cost }) t ≡ Accepted →
+      after (record { n = n; ask = workOut cost }) t ≡ after (record { n = n; ask = workOut cost }) (bringing t cost)
+  unfolding after rule
+  brought-after ok = rw (ok, sym brought-refusal ∙ ok)
+
+-- an accepted image write has right tables, and answers with their image in front of the buffer
+module _ (n : ℕ) (t : Tables) (buffer : List ℕ) (ok : refusal (record { n = n; ask = imageWrite buffer }) t ≡ Accepted) where
+  written-right : right scale mostWays n t ≡ true
+  unfolding refusal rule
+  written-right =
+      let (size, e₁) = need-true (upTo mostStops n) BadSize _ refl (ap accepted ok) in
+      let (lengths, e₂) = need-true (sized n t) BadLength _ refl e₁ in
+      need-true (right scale mostWays n t) BadTables _ refl e₂ .0
+
+  written-length : answer (record { n = n; ask = imageWrite buffer }) t .length ≡ length (imageOf n (t .cost))
+  unfolding answer reply rule
+  written-length = rw ok
+
+  written-buffer : answer (record { n = n; ask = imageWrite buffer }) t .buffer ≡ imageOf n (t .cost) ++ drop (length (imageOf n (t .cost))) buffer
+  unfolding answer reply rule
+  written-buffer = rw ok
+
+-- an image is read where no pair is crowded, and gives the tables of its costs
+module _ (n : ℕ) (t : Tables) (image : List ℕ) (size : upTo mostStops n ≡ true) (lengths : sized n t ≡ true)
+    (is : isImage n image ≡ true) (few : uncrowded mostWays n (costsOf n image) ≡ true) where
+  read-taken : refusal (record { n = n; ask = imageRead image }) t ≡ Accepted
+  unfolding refusal rule
+  read-taken = rw (size, lengths, is, few)
+
+  read-gives : after (record { n = n; ask = imageRead image }) t ≡ filled scale n (costsOf n image)
+  unfolding after rule
+  read-gives = rw read-taken
+
+-- what is written from tables is read into any others of the same lengths, and gives the same tables
+pub written-back : (n : ℕ) (t t′ : Tables) (buffer : List ℕ) → refusal (record { n = n; ask = imageWrite buffer }) t ≡ Accepted → sized n t′ ≡ true →
+    let a : Answer = answer (record { n = n; ask = imageWrite buffer }) t in
+    let c : Call = record { n = n; ask = imageRead (take (a .length) (a .buffer)) } in
+    (refusal c t′ ≡ Accepted) × (after c t′ ≡ t)
+written-back n t t′ buffer ok lengths =
+    let (size, sizes, tests) = passed (record { n = n; ask = imageWrite buffer }) t ok in
+    let (valid, few, same) = right-true scale mostWays n t (written-right n t buffer ok) in
+    let small : n ≤ 64 = leb-true n 64 (and-eq-true-iff (leb 1 n) (leb n 64) .0 size .1) in
+    let costs = written-costs n (t .cost) small valid (sized-cost n t sizes) in
+    let is = written-read n (t .cost) small valid in
+    let free : uncrowded mostWays n (costsOf n (imageOf n (t .cost))) ≡ true = rw costs few in
+    let taken = read-taken n t′ (imageOf n (t .cost)) size lengths is free in
+    let given = read-gives n t′ (imageOf n (t .cost)) size lengths is free in
+    let front : take (length (imageOf n (t .cost))) (imageOf n (t .cost) ++ drop (length (imageOf n (t .cost))) buffer) ≡ imageOf n (t .cost) = take-append-seam (imageOf n (t .cost)) _ in
+    rw (written-length n t buffer ok, written-buffer n t buffer ok, front) (taken, given ∙ ap (filled scale n) costs ∙ same)
+
+read-tests : (n : ℕ) (t : Tables) (image : List ℕ) → accepted (rule n (imageRead image) (t .cost) .tests) ≡ true →
+    (isImage n image ≡ true) × (uncrowded mostWays n (costsOf n image) ≡ true)
+unfolding rule
+read-tests n t image e =
+    let (is, e₁) = need-true (isImage n image) BadImage _ refl e in
+    (is, need-true (uncrowded mostWays n (costsOf n image)) TooManyWays _ refl e₁ .0)
+
+-- the tables of valid costs without a crowded pair are written where the buffer is long enough
+write-taken : (n : ℕ) (cost buffer : List ℕ) → upTo mostStops n ≡ true → length cost ≡ n * n → validCosts n cost ≡ true → uncrowded mostWays n cost ≡ true →
+    length (imageOf n cost) ≤ length buffer → refusal (record { n = n; ask = imageWrite buffer }) (filled scale n cost) ≡ Accepted
+unfolding refusal rule filled
+write-taken n cost buffer size square valid few fits =
+    rw (size, sized-filled scale n n cost square ∙ eq-eqb n n refl, right-filled scale mostWays n cost valid few, le-leb (length (imageOf n cost)) (length buffer) fits)
+
+-- an image that is read, written again from what it gave, gives its bytes, and the bytes past them stay
+pub read-back : (n : ℕ) (t : Tables) (image buffer : List ℕ) → Bytes image → refusal (record { n = n; ask = imageRead image }) t ≡ Accepted →
+    length image ≤ length buffer →
+    let c : Call = record { n = n; ask = imageWrite buffer } in
+    let t′ : Tables = after (record { n = n; ask = imageRead image }) t in
+    (refusal c t′ ≡ Accepted) × (answer c t′ .length ≡ length image) × (answer c t′ .buffer ≡ image ++ drop (length image) buffer)
+unfolding filled
+read-back n t image buffer bytes ok fits =
+    let (size, lengths, tests) = passed (record { n = n; ask = imageRead image }) t ok in
+    let (is, free) = read-tests n t image tests in
+    let small : n ≤ 64 = leb-true n 64 (and-eq-true-iff (leb 1 n) (leb n 64) .0 size .1) in
+    let again = read-written n image small bytes is in
+    let t′ : Tables = filled scale n (costsOf n image) in
+    let taken = write-taken n (costsOf n image) buffer size (length-read n image) (read-valid n image is) free (rw again fits) in
+    rw (read-gives n t image size lengths is free)
+    (taken, written-length n t′ buffer taken ∙ ap length again, written-buffer n t′ buffer taken ∙ ap (λ l. l ++ drop (length l) buffer) again)
