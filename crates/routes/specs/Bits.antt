@@ -10,7 +10,7 @@ use lib.Dec.{eqb, ltb, lit<, eqb·suc-zero, eqb·zero-suc, eqb·suc-suc}
 use lib.Bits.{bitAnd, bitOr, and-step, or-step, or-shifted, and-le-r}
 use lib.Count.{ones, onesIn, trailingZeros, ones-cat}
 use lib.Pow.{pow-lt}
-use borrow.Author.Tests.{eqb-true, eqb-false, lt-ltb, le-ltb, ltb-true, not-true}
+use borrow.Author.Tests.{eqb-true, eqb-false, lt-ltb, le-ltb, ltb-true, not-true, not-false}
 use Rattle.routes.specs.Route.{sumTo}
 use Rattle.routes.specs.Booleans.{bool-iff, both}
 use Rattle.routes.specs.Sums.{cond-true, cond-false, sumTo-cong, sumTo-zero, sumTo-split, sumTo-pick}
@@ -98,10 +98,11 @@ has-pow (suc t) (suc u) =
     rw (high, eqb·suc-suc) (has-pow t u)
 
 -- as the shift `1 << t` gives it
+pub one-shifted : (t : ℕ) → t < 64 → 1 * 2 ^ t % 2 ^ 64 ≡ 2 ^ t
+one-shifted t h = mod-eq-of-lt (rw one-mul (pow-lt h)) ∙ one-mul (2 ^ t)
+
 pub has-one : (t u : ℕ) → t < 64 → has (1 * 2 ^ t % 2 ^ 64) u ≡ eqb u t
-has-one t u h =
-    let exact : 1 * 2 ^ t % 2 ^ 64 ≡ 2 ^ t = mod-eq-of-lt (rw one-mul (pow-lt h)) ∙ one-mul (2 ^ t) in
-    rw exact (has-pow t u)
+has-one t u h = rw (one-shifted t h) (has-pow t u)
 
 same-digit : (x y : ℕ) → x < 2 → y < 2 → eqb x 1 ≡ eqb y 1 → x ≡ y
 same-digit x y hx hy e =
@@ -165,6 +166,15 @@ popped a z h =
     let p = lowest 64 a z h in
     record { member = p .0; rest = λ u. has-and a (a - 1) u ∙ p .1 u; less = lt-of-le-of-lt (and-le-r a (a - 1)) (omega arith) }
 
+-- what is left is in the set and is not the member taken; what has gone is that member
+pub popped-kept : {a t b : ℕ} → Popped a t b → (u : ℕ) → has b u ≡ true → (has a u ≡ true) × (u ≢ t)
+popped-kept {a} {t} p u h =
+    let (m, e) = and-eq-true-iff (has a u) (not (eqb u t)) .0 (sym (p .rest u) ∙ h) in
+    (m, eqb-false u t (not-true (eqb u t) e))
+
+pub popped-gone : {a t b : ℕ} → Popped a t b → (u : ℕ) → has a u ≡ true → has b u ≡ false → u ≡ t
+popped-gone {a} {t} p u h f = eqb-true u t (not-false (eqb u t) (sym (rw h at (p .rest u)) ∙ f))
+
 -- a loop that adds over the members of a word: what it adds next, and what is then left, is what was left
 pub sum-popped : (n : ℕ) (f : ℕ → ℕ) {a t b : ℕ} → Popped a t b → t < n
     → sumTo n (λ u. cond (has a u) (f u) 0) ≡ f t + sumTo n (λ u. cond (has b u) (f u) 0)
@@ -197,19 +207,13 @@ module _ {A : Type 0} (all : ℕ) (made old : ℕ → A) where
       → then t ≡ made t → ((u : ℕ) → u ≢ t → then u ≡ now u) → Rewriting all rest made old then
   rewriting-goes {left} {t} {rest} {now} {then} r p here other =
       record {
-        inside = λ u h. r .inside u (kept u h .0);
-        todo = λ u h. other u (kept u h .1) ∙ r .todo u (kept u h .0);
+        inside = λ u h. r .inside u (popped-kept p u h .0);
+        todo = λ u h. other u (popped-kept p u h .1) ∙ r .todo u (popped-kept p u h .0);
         away = λ u h. other u (λ e. both (r .inside t (p .member)) (rw e at h)) ∙ r .away u h;
-        done = λ u h l. split (eqb u t) (λ e. let e = eqb-true u t e in rw e here) λ e. other u (eqb-false u t e) ∙ r .done u h (passed u l e);
+        done = λ u h l. split (has left u)
+            (λ m. rw (popped-gone p u m l) here)
+            (λ m. other u (λ e. both (p .member) (rw e at m)) ∙ r .done u h m);
       }
-    where
-      kept : (u : ℕ) → has rest u ≡ true → (has left u ≡ true) × (u ≢ t)
-      kept u h =
-          let both = and-eq-true-iff (has left u) (not (eqb u t)) .0 (sym (p .rest u) ∙ h) in
-          (both .0, eqb-false u t (not-true (eqb u t) (both .1)))
-
-      passed : (u : ℕ) → has rest u ≡ false → eqb u t ≡ false → has left u ≡ false
-      passed u l e = sym (and-true (has left u)) ∙ sym (rw e at (p .rest u)) ∙ l
 
   pub rewriting-ends : {now : ℕ → A} → Rewriting all 0 made old now → (t : ℕ) → now t ≡ cond (has all t) (made t) (old t)
   rewriting-ends r t = split (has all t) (λ h. r .done t h (has-none t) ∙ sym (cond-true (made t) (old t) h)) (λ h. r .away t h ∙ sym (cond-false (made t) (old t) h))

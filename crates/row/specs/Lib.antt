@@ -1,0 +1,10 @@
+pub mod Promise
+pub mod Sets
+pub mod Words
+pub mod Relaxing
+pub mod Settling
+pub mod Order
+pub mod Turns
+pub mod Pushing
+pub mod Owing
+pub mod Whole

@@ -1,0 +1,58 @@
+-- What the small steps on words and numbers give. Assumes nothing.
+use Prim.Native.Nat.{ℕ, suc, _+_, _*_, _^_, _<_, _≤_, min}
+use mathlib.Core.Path.{_≡_}
+use mathlib.Core.Bool.{Bool, true, cond}
+use mathlib.Core.List.{List}
+use lib.Bits.{bitOr}
+use lib.Dec.{ltb, leb}
+use lib.ListN.{length, getD}
+use Rattle.routes.specs.Route.{has, sumTo}
+
+-- r is one of the stops a and b, with the less time
+pub record Nearer (time : List ℕ) (a b r : ℕ) : Type 0 where
+  pub one : (p : ℕ → Bool) → p a ≡ true → p b ≡ true → p r ≡ true
+  pub left : getD time r 0 ≤ getD time a 0
+  pub right : getD time r 0 ≤ getD time b 0
+
+-- r is a stop of least time in the set
+pub record Nearest (time : List ℕ) (set r : ℕ) : Type 0 where
+  pub member : has set r ≡ true
+  pub least : (t : ℕ) → has set t ≡ true → getD time r 0 ≤ getD time t 0
+
+-- the set has only stops below n
+abbrev pub Below : ℕ → ℕ → Type 0
+Below n set = (t : ℕ) → has set t ≡ true → t < n
+
+-- the sum of a list's entries at the stops of a set
+abbrev pub sumOver : List ℕ → ℕ → ℕ
+sumOver l set = sumTo (length l) (λ u. cond (has set u) (getD l u 0) 0)
+
+-- predecessors pred of a stop of time old after the offer via: dropped where it is better, joined by bit where it is no worse
+abbrev pub joinedBy : ℕ → ℕ → ℕ → ℕ → ℕ
+joinedBy via old bit pred = bitOr (cond (ltb via old) 0 pred) (cond (leb via old) bit 0)
+
+-- what a sum of ways over a set asks: stops of the list, and no count above limit + 1
+pub record Tally (limit first set : ℕ) (ways : List ℕ) : Type 0 where
+  pub few : limit ≤ 22
+  pub start : first ≤ suc limit
+  pub below : Below (length ways) set
+  pub capped : (u : ℕ) → u < length ways → getD ways u 0 ≤ suc limit
+
+-- the time of the way over b to t
+abbrev pub viaOf : ℕ → ℕ → List ℕ → List ℕ → ℕ → ℕ
+viaOf n b cost time t = getD time b 0 + getD cost (b * n + t) 0
+
+-- what the offers of b to the stops of a set ask
+pub record Offers (n b set : ℕ) (cost time pred : List ℕ) : Type 0 where
+  pub most : n ≤ 64
+  pub inside : b < n
+  pub square : length cost ≡ n * n
+  pub timed : length time ≡ n
+  pub room : length pred ≡ 64
+  pub below : Below n set
+  pub fits : (t : ℕ) → has set t ≡ true → viaOf n b cost time t < 2 ^ 32
+
+-- and what they leave
+pub record Offered (n b set : ℕ) (cost time pred time′ pred′ : List ℕ) : Type 0 where
+  pub times : (t : ℕ) → getD time′ t 0 ≡ cond (has set t) (min (viaOf n b cost time t) (getD time t 0)) (getD time t 0)
+  pub preds : (t : ℕ) → getD pred′ t 0 ≡ cond (has set t) (joinedBy (viaOf n b cost time t) (getD time t 0) (2 ^ b) (getD pred t 0)) (getD pred t 0)

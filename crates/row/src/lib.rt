@@ -1,0 +1,73 @@
+// One source's row of a hall: the least time, the ways and the share of every stop.
+// Links are those of the masks: `out[u]` has bit t where the link u to t counts.
+mod push;
+mod settle;
+mod sets;
+
+ghost use mathlib.Core.Path.{_≡_};
+ghost use mathlib.Core.Bool.{not};
+ghost use lib.ListN.{length};
+ghost use Rattle.routes.specs.Route.{allTo};
+ghost use Rattle.row.specs.Promise.{masked, Task, Filled};
+ghost use Rattle.row.specs.Whole.{Wiped, within};
+
+// Writes the row of the source s. Answers whether some stop has more ways than the limit.
+pub fn fill(
+    n: usize,
+    s: usize,
+    cost: &[u32],
+    out: &[u64; 64],
+    scale: u64,
+    limit: u32,
+    mark: u32,
+    time: &mut [u32],
+    ways: &mut [u32],
+    share: &mut [u64],
+) -> bool
+    requires { ⌜ Task n s (now cost) (now out) scale limit mark ⌝ }
+    requires { ⌜ length (now time) ≡ n ⌝ }
+    requires { ⌜ length (now ways) ≡ n ⌝ }
+    requires { ⌜ length (now share) ≡ n ⌝ }
+    ensures { λ r. ⌜ Filled (masked n (now (cost .entry)) (now (out .entry))) n s limit scale (now (time .exit)) (now (ways .exit)) (now (share .exit)) r ⌝ }
+{
+    let mut pred = [0u64; 64];
+    let mut order = [0usize; 64];
+    wipe(time, mark);
+    wipe(ways, 0);
+    clear(share);
+    time[s] = 0;
+    ways[s] = 1;
+    let k = settle::settle(n, s, cost, out, limit, time, ways, &mut pred, &mut order);
+    push::accumulate(k, scale, limit, ways, &pred, &order, share);
+    share[s] = 0;
+    crowded(limit, ways)
+}
+
+// Writes x everywhere.
+fn wipe(list: &mut [u32], x: u32)
+    ensures { λ _. ⌜ Wiped x (length (now (list .entry))) (now (list .entry)) (now (list .exit)) ⌝ }
+{
+    for t in 0..list.len() {
+        list[t] = x;
+    }
+}
+
+// Writes 0 everywhere.
+fn clear(list: &mut [u64])
+    ensures { λ _. ⌜ Wiped 0 (length (now (list .entry))) (now (list .entry)) (now (list .exit)) ⌝ }
+{
+    for t in 0..list.len() {
+        list[t] = 0;
+    }
+}
+
+// Some stop has more ways than the limit.
+fn crowded(limit: u32, ways: &[u32]) -> bool
+    ensures { λ r. ⌜ r ≡ not (allTo (length (now (ways .entry))) (within limit (now (ways .entry)))) ⌝ }
+{
+    let mut over = false;
+    for t in 0..ways.len() {
+        over |= limit < ways[t];
+    }
+    over
+}

@@ -1,0 +1,124 @@
+// Dijkstra's algorithm: stops are settled from near to far.
+use super::sets;
+
+ghost use mathlib.Core.Path.{_≡_};
+ghost use Prim.Native.Nat.{ℕ, suc, _+_, _<_, _≤_, min};
+ghost use lib.ListN.{length};
+ghost use Rattle.row.specs.Promise.{masked};
+ghost use Rattle.row.specs.Turns.{Ground, Begun, Settled};
+ghost use Rattle.row.specs.Sets.{Nearer, Nearest, Below, Tally, sumOver, joinedBy, Offers, Offered};
+
+// Settles every stop that the source reaches, keeps their order, and answers how many there are.
+pub fn settle(
+    n: usize,
+    s: usize,
+    cost: &[u32],
+    out: &[u64; 64],
+    limit: u32,
+    time: &mut [u32],
+    ways: &mut [u32],
+    pred: &mut [u64],
+    order: &mut [usize],
+) -> usize
+    requires { ⌜ Ground n s limit (now cost) (now out) ⌝ }
+    requires { ⌜ Begun n s (now time) (now ways) (now pred) (now order) ⌝ }
+    ensures { λ r. ⌜ Settled (masked n (now (cost .entry)) (now (out .entry))) n s limit (now (time .exit)) (now (ways .exit)) (now (pred .exit)) (now (order .exit)) r ⌝ }
+{
+    let mut k: usize = 0;
+    let mut done: u64 = 0;
+    let mut frontier = sets::only(s);
+    while frontier != 0 {
+        let b = nearest(time, frontier);
+        let bit = sets::only(b);
+        order[k] = b;
+        k += 1;
+        done = done | bit;
+        let count = tally(limit, ways[b], pred[b], ways);
+        ways[b] = count;
+        let fresh = out[b] & !done;
+        relax(n, b, fresh, cost, time, pred);
+        frontier = (frontier | fresh) & !bit;
+    }
+    k
+}
+
+// The stop of least time in a frontier that is not empty.
+fn nearest(time: &[u32], frontier: u64) -> usize
+    requires { ⌜ 0 < frontier ⌝ }
+    requires { ⌜ Below (length (now time)) frontier ⌝ }
+    ensures { λ r. ⌜ Nearest (now (time .entry)) frontier r ⌝ }
+{
+    let mut best = sets::lowest(frontier);
+    let mut left = sets::rest(frontier);
+    while left != 0 {
+        best = nearer(time, best, sets::lowest(left));
+        left = sets::rest(left);
+    }
+    best
+}
+
+// The one of two stops that has less time.
+fn nearer(time: &[u32], a: usize, b: usize) -> usize
+    requires { ⌜ a < length (now time) ⌝ }
+    requires { ⌜ b < length (now time) ⌝ }
+    ensures { λ r. ⌜ Nearer (now (time .entry)) a b r ⌝ }
+{
+    if time[b] < time[a] { b } else { a }
+}
+
+// The ways into a stop: a first count and those of its predecessors, counted up to limit + 1.
+fn tally(limit: u32, first: u32, from: u64, ways: &[u32]) -> u32
+    requires { ⌜ Tally limit first from (now ways) ⌝ }
+    ensures { λ r. ⌜ r ≡ min (suc limit) (first + sumOver (now (ways .entry)) from) ⌝ }
+{
+    let mut count = first;
+    let mut left = from;
+    while left != 0 {
+        let u = sets::lowest(left);
+        count = clamp(limit, count + ways[u]);
+        left = sets::rest(left);
+    }
+    count
+}
+
+// A count up to limit + 1. No sum of ways passes 1386.
+fn clamp(limit: u32, count: u32) -> u32
+    requires { ⌜ count ≤ 1386 ⌝ }
+    ensures { λ r. ⌜ r ≡ min (suc limit) count ⌝ }
+{
+    if limit < count { limit + 1 } else { count }
+}
+
+// Offers the links from b to the stops of a set.
+fn relax(n: usize, b: usize, fresh: u64, cost: &[u32], time: &mut [u32], pred: &mut [u64])
+    requires { ⌜ Offers n b fresh (now cost) (now time) (now pred) ⌝ }
+    ensures { λ _. ⌜ Offered n b fresh (now (cost .entry)) (now (time .entry)) (now (pred .entry)) (now (time .exit)) (now (pred .exit)) ⌝ }
+{
+    let bit = sets::only(b);
+    let base = b * n;
+    let at = time[b];
+    let mut left = fresh;
+    while left != 0 {
+        let t = sets::lowest(left);
+        let via = at + cost[base + t];
+        let old = time[t];
+        pred[t] = parents(via, old, bit, pred[t]);
+        time[t] = lower(via, old);
+        left = sets::rest(left);
+    }
+}
+
+// The predecessors of a stop of time `old` after the offer `via` of the stop of `bit`.
+fn parents(via: u32, old: u32, bit: u64, pred: u64) -> u64
+    ensures { λ r. ⌜ r ≡ joinedBy via old bit pred ⌝ }
+{
+    let kept = if via < old { 0 } else { pred };
+    let more = if via <= old { bit } else { 0 };
+    kept | more
+}
+
+fn lower(via: u32, old: u32) -> u32
+    ensures { λ r. ⌜ r ≡ min via old ⌝ }
+{
+    if via < old { via } else { old }
+}
