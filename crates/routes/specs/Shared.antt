@@ -120,7 +120,7 @@ module _ (W : Costs) (n s : ℕ) (F : Flows W n s) where
     ψ = flowBack W n s limit scale
 
     -- to a crowded stop nothing flows back
-    crowded-back : (v : ℕ) → v < n → limit < ways W n s v → ψ v ≡ 0
+    pub crowded-back : (v : ℕ) → v < n → limit < ways W n s v → ψ v ≡ 0
     unfolding flowBack
     crowded-back v l h = sumTo-zero n (λ t k. go t k (ltb limit (ways W n s t)) refl (paths W n s v t) refl)
       where

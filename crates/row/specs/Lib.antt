@@ -8,3 +8,8 @@ pub mod Turns
 pub mod Pushing
 pub mod Owing
 pub mod Whole
+pub mod Checked
+pub mod Scanning
+pub mod Passes
+pub mod Verdict
+pub mod Masks

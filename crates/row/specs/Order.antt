@@ -43,8 +43,8 @@ module _ (o : ℕ → ℕ) where
   seen-grows (suc j) zero t l h = absurd (not-suc-le-zero l)
   seen-grows (suc j) (suc k) t l h =
       split (eqb j k) (λ e. rw (← eqb-true j k e) h) λ e.
-        let other = eqb-false j k e in
-        rw (seen-grows (suc j) k t (omega arith) h)
+      let other = eqb-false j k e in
+      rw (seen-grows (suc j) k t (omega arith) h)
 
   pub seen-at : (k i : ℕ) → i < k → seen o k (o i) ≡ true
   unfolding seen
@@ -57,13 +57,13 @@ order-none n D o =
 
 -- one more stop, that is new and not nearer than the others
 pub order-more : (n k : ℕ) {D o p : ℕ → ℕ} → Order n k D o → ((i : ℕ) → i < k → p i ≡ o i) → p k < n → seen o k (p k) ≡ false
-  → ((t : ℕ) → seen o k t ≡ true → D t ≤ D (p k)) → Order n (suc k) D p
+    → ((t : ℕ) → seen o k t ≡ true → D t ≤ D (p k)) → Order n (suc k) D p
 order-more n k {D} {o} {p} q same below new last =
-    record
-      { inside = below-suc k (λ i l. rw (same i l) (q .inside i l)) below
-      ; fresh = below-suc k (λ i l. before i (p i) (omega arith) ∙ rw (same i l) (q .fresh i l)) (before k (p k) (le-refl k) ∙ new)
-      ; sorted = λ i t l. below-suc {P = λ i. seen p i t ≡ true → D t ≤ D (p i)} k (λ i l h. rw (same i l) (q .sorted i t l (sym (before i t (omega arith)) ∙ h))) (λ h. last t (sym (before k t (le-refl k)) ∙ h)) i l
-      }
+    record {
+      inside = below-suc k (λ i l. rw (same i l) (q .inside i l)) below;
+      fresh = below-suc k (λ i l. before i (p i) (omega arith) ∙ rw (same i l) (q .fresh i l)) (before k (p k) (le-refl k) ∙ new);
+      sorted = λ i t l. below-suc {P = λ i. seen p i t ≡ true → D t ≤ D (p i)} k (λ i l h. rw (same i l) (q .sorted i t l (sym (before i t (omega arith)) ∙ h))) (λ h. last t (sym (before k t (le-refl k)) ∙ h)) i l;
+    }
   where
     before : (i t : ℕ) → i ≤ k → seen p i t ≡ seen o i t
     before i t l = seen-cong i t (λ j m. same j (omega arith))
@@ -101,10 +101,10 @@ module _ (n k : ℕ) {D o : ℕ → ℕ} (q : Order n k D o) where
       go zero m g = absurd (false≢true g)
       go (suc j) m g =
           split (seen o j t) (go j (omega arith)) λ e.
-            let here = eqb-true t (o j) (rw e at g) in
-            split (ltb i j)
-              (λ b. rw here (q .sorted j (o i) m (seen-at o j i (ltb-true i j b))))
-              λ b. absurd (both (seen-grows o (suc j) (suc i) t (suc-le-suc (ltb-false i j b)) g) f)
+          let here = eqb-true t (o j) (rw e at g) in
+          split (ltb i j)
+          (λ b. rw here (q .sorted j (o i) m (seen-at o j i (ltb-true i j b))))
+          λ b. absurd (both (seen-grows o (suc j) (suc i) t (suc-le-suc (ltb-false i j b)) g) f)
 
 -- there is room for one more stop that is new
 pub order-room : (n k b : ℕ) {D o : ℕ → ℕ} → Order n k D o → b < n → seen o k b ≡ false → ((t : ℕ) → seen o k t ≡ true → D t ≤ D b) → k < n

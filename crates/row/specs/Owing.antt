@@ -35,19 +35,19 @@ module _ (to psi : ℕ) (share : List ℕ) where
 
   -- the member taken is in the list, holds what it held, and has room
   pub adding-room : Adds to psi share → {left t rest : ℕ} {share′ : List ℕ} → Adding to psi left share share′ → Popped left t rest
-    → (t < length share′) × (getD share′ t 0 + psi < 2 ^ 64)
+      → (t < length share′) × (getD share′ t 0 + psi < 2 ^ 64)
   adding-room asked {left} {t} c p =
       let m = c .added .inside t (p .member) in
       (omega (arith, asked .below t m, c .long), omega (arith, asked .fits t m, c .added .todo t (p .member)))
 
   pub adding-goes : {left t rest : ℕ} {share′ : List ℕ} → Adding to psi left share share′ → Popped left t rest → t < length share′
-    → Adding to psi rest share (set share′ t (getD share′ t 0 + psi))
+      → Adding to psi rest share (set share′ t (getD share′ t 0 + psi))
   adding-goes {left} {t} {rest} {share′} c p l =
       record {
         long = length-set share′ t _ ∙ c .long;
         added = rewriting-goes to _ _ (c .added) p
-          (getD-set-same share′ t _ 0 l ∙ ap (λ x. x + psi) (c .added .todo t (p .member)))
-          (λ u e. getD-set-other share′ t u _ 0 e)
+            (getD-set-same share′ t _ 0 l ∙ ap (λ x. x + psi) (c .added .todo t (p .member)))
+            (λ u e. getD-set-other share′ t u _ 0 e);
       }
 
   pub adding-ends : {share′ : List ℕ} → Adding to psi 0 share share′ → Added to psi share share′
@@ -69,7 +69,7 @@ pub record Owing (W : Costs) (n s k scale limit : ℕ) (ways pred order : List �
   pub near : (u t : ℕ) → u < n → t < n → leastTime W n s u ≢ mark → leastTime W n s u + W u t < mark
   pub some : (t : ℕ) → t < n → leastTime W n s t ≢ mark → 0 < cappedWays W n s limit t
   pub flowing : (v : ℕ) → v < n → flowBack W n s limit scale v
-    ≡ quotient limit scale (cappedWays W n s limit v) + outflow W n (leastTime W n s) (flowBack W n s limit scale) v
+      ≡ quotient limit scale (cappedWays W n s limit v) + outflow W n (leastTime W n s) (flowBack W n s limit scale) v
   pub back : (v : ℕ) → v < n → flowBack W n s limit scale v ≤ n * scale
   pub shared : (v : ℕ) → v < n → cappedWays W n s limit v * flowBack W n s limit scale v ≤ n * scale
 
@@ -96,8 +96,10 @@ Pushes W n s k scale limit order i share =
 module _ (W : Costs) (n s k scale limit : ℕ) (ways pred order : List ℕ) (w : Owing W n s k scale limit ways pred order) where
   abbrev D : ℕ → ℕ
   D = leastTime W n s
+
   abbrev σ : ℕ → ℕ
   σ = cappedWays W n s limit
+
   abbrev ψ : ℕ → ℕ
   ψ = flowBack W n s limit scale
 
@@ -136,22 +138,31 @@ module _ (W : Costs) (n s k scale limit : ℕ) (ways pred order : List ℕ) (w :
           some = omega (arith, w .counts v inside, w .some v inside reached);
           sum = omega (arith, psi, w .back v inside, total);
           product =
-            let less : getD share v 0 ≤ ψ v = omega (arith, psi) in
-            omega (arith, mul-le-mul-left (getD ways v 0) less, ap (λ x. x * ψ v) (w .counts v inside), w .shared v inside, total);
-          adds = record { below = λ u h. omega (arith, w .behind v u inside h); fits = λ u h.
-            let lu = w .behind v u inside h in
-            omega (arith, psi, flow-fits W n k D σ ψ (λ i. getD order i 0) (w .ordered) (w .near) (w .complete) j l (λ u. getD share u 0) state u lu (sym (parent u lu) ∙ h),
-              w .flowing u lu, w .back u lu, total) }
+              let less : getD share v 0 ≤ ψ v = omega (arith, psi) in
+              omega (arith, mul-le-mul-left (getD ways v 0) less, ap (λ x. x * ψ v) (w .counts v inside), w .shared v inside, total);
+          adds = record {
+            below = λ u h. omega (arith, w .behind v u inside h);
+            fits = λ u h.
+                let lu = w .behind v u inside h in
+                omega (
+                  arith,
+                  psi,
+                  flow-fits W n k D σ ψ (λ i. getD order i 0) (w .ordered) (w .near) (w .complete) j l (λ u. getD share u 0) state u lu (sym (parent u lu) ∙ h),
+                  w .flowing u lu,
+                  w .back u lu,
+                  total,
+                );
+          };
         }
 
     pub owing-next : (share′ : List ℕ) → length share′ ≡ length share
-      → Added (getD pred v 0) (quotient limit scale (getD ways v 0) + getD share v 0) share share′
-      → Pushes W n s k scale limit order j (set share′ v (getD ways v 0 * getD share v 0))
+        → Added (getD pred v 0) (quotient limit scale (getD ways v 0) + getD share v 0) share share′
+        → Pushes W n s k scale limit order j (set share′ v (getD ways v 0 * getD share v 0))
     owing-next share′ kept added =
         pushes-next W n k D σ ψ (λ i. getD order i 0) (w .ordered) (w .near) (w .complete) j l (λ u. getD share u 0) state
-          (λ u. getD (set share′ v (getD ways v 0 * getD share v 0)) u 0)
-          (getD-set-same share′ v _ 0 (omega (arith, inside)) ∙ ap (λ x. x * getD share v 0) (w .counts v inside))
-          (λ u lu e. getD-set-other share′ v u _ 0 e ∙ added u ∙ rw (parent u lu, psi) (plus (tight W D u v) (getD share u 0) (ψ v)))
+        (λ u. getD (set share′ v (getD ways v 0 * getD share v 0)) u 0)
+        (getD-set-same share′ v _ 0 (omega (arith, inside)) ∙ ap (λ x. x * getD share v 0) (w .counts v inside))
+        (λ u lu e. getD-set-other share′ v u _ 0 e ∙ added u ∙ rw (parent u lu, psi) (plus (tight W D u v) (getD share u 0) (ψ v)))
 
   pub owing-ends : (share : List ℕ) → Pushes W n s k scale limit order 0 share → (v : ℕ) → v < n → getD share v 0 ≡ σ v * outflow W n D ψ v
   owing-ends share state = pushing-ends W n k D σ ψ (λ i. getD order i 0) (w .ordered) (w .near) (w .complete) (λ v. getD share v 0) state
@@ -205,17 +216,17 @@ module _ (k scale limit : ℕ) (ways pred order share₀ : List ℕ) (asked : Wa
     pub paying-step : Step limit scale (getD order (i - 1) 0) ways pred share
     paying-step =
         owing-step (asked .costs) (asked .size) (asked .source) k scale limit ways pred order (asked .owing) (i - 1) below share
-          (state .long ∙ asked .long) (before _ _ _ (asked .owing) (asked .long))
+        (state .long ∙ asked .long) (before _ _ _ (asked .owing) (asked .long))
 
     pub paying-goes : (once psi : ℕ) (share′ : List ℕ) → once ≡ quotient limit scale (getD ways (getD order (i - 1) 0) 0)
-      → psi ≡ once + getD share (getD order (i - 1) 0) 0 → length share′ ≡ length share → Added (getD pred (getD order (i - 1) 0) 0) psi share share′
-      → Paying k scale limit ways pred order share₀ (i - 1)
-          (set share′ (getD order (i - 1) 0) (getD ways (getD order (i - 1) 0) 0 * getD share (getD order (i - 1) 0) 0))
+        → psi ≡ once + getD share (getD order (i - 1) 0) 0 → length share′ ≡ length share → Added (getD pred (getD order (i - 1) 0) 0) psi share share′
+        → Paying k scale limit ways pred order share₀ (i - 1)
+        (set share′ (getD order (i - 1) 0) (getD ways (getD order (i - 1) 0) 0 * getD share (getD order (i - 1) 0) 0))
     paying-goes once psi share′ own whole kept added =
         record {
           most = omega (arith, below);
           long = length-set share′ _ _ ∙ kept ∙ state .long;
           state = λ W n s w e.
-            owing-next W n s k scale limit ways pred order w (i - 1) below share (state .long ∙ e) (before W n s w e) share′ kept
-              (subst (λ x. Added (getD pred (getD order (i - 1) 0) 0) x share share′) (whole ∙ ap (λ x. x + getD share (getD order (i - 1) 0) 0) own) added)
+              owing-next W n s k scale limit ways pred order w (i - 1) below share (state .long ∙ e) (before W n s w e) share′ kept
+              (subst (λ x. Added (getD pred (getD order (i - 1) 0) 0) x share share′) (whole ∙ ap (λ x. x + getD share (getD order (i - 1) 0) 0) own) added);
         }

@@ -40,22 +40,21 @@ narrows true false y = omega arith
 narrows false b y = omega arith
 
 module _ (W : Costs) (n k : ℕ) (D σ ψ o : ℕ → ℕ) (order : Order n k D o)
-  (near : (u t : ℕ) → u < n → t < n → D u ≢ mark → D u + W u t < mark)
-  (reached : (t : ℕ) → t < n → D t ≢ mark → seen o k t ≡ true) where
-
+    (near : (u t : ℕ) → u < n → t < n → D u ≢ mark → D u + W u t < mark)
+    (reached : (t : ℕ) → t < n → D t ≢ mark → seen o k t ≡ true) where
   -- before the first turn every stop waits, and nothing is pending
   pub pushing-starts : (f : ℕ → ℕ) → ((v : ℕ) → v < n → f v ≡ 0) → Pushing W n D σ ψ o k k f
   pushing-starts f zeros =
-      record
-        { waiting = λ v l h. zeros v l ∙ sym (sumTo-zero n λ x _. cond-false {b = tight W D v x && passed o k k x} (ψ x) 0 (rw (and-not-self (seen o k x)) (and-false (tight W D v x))))
-        ; done = λ v l h. absurd (both h (and-not-self (seen o k v)))
-        }
+      record {
+        waiting = λ v l h. zeros v l ∙ sym (sumTo-zero n λ x _. cond-false {b = tight W D v x && passed o k k x} (ψ x) 0 (rw (and-not-self (seen o k x)) (and-false (tight W D v x))));
+        done = λ v l h. absurd (both h (and-not-self (seen o k v)));
+      }
 
   module _ (i : ℕ) (li : i < k) (f : ℕ → ℕ) (state : Pushing W n D σ ψ o k (suc i) f) where
     not-nearer : (x : ℕ) → seen o (suc i) x ≡ true → D x ≤ D (o i)
     not-nearer x h =
         split (seen o i x) (order .sorted i x li) λ e.
-          omega (arith, ap D (eqb-true x (o i) (sym (rw e at (seen-more o i x)) ∙ h)))
+        omega (arith, ap D (eqb-true x (o i) (sym (rw e at (seen-more o i x)) ∙ h)))
 
     -- the stop o i itself, and another stop, in this turn
     here : (passed o k (suc i) (o i) ≡ false) × (passed o k i (o i) ≡ true)
@@ -96,13 +95,17 @@ module _ (W : Costs) (n k : ℕ) (D σ ψ o : ℕ → ℕ) (order : Order n k D 
     -- what comes to a predecessor stays within all that flows back to it
     pub flow-fits : (u : ℕ) → u < n → tight W D u (o i) ≡ true → f u + ψ (o i) ≤ outflow W n D ψ u
     flow-fits u l h =
-        omega
-          (arith, state .waiting u l (is-false _ (λ p. both h (none-back u p))), pending-more u, cond-true (ψ (o i)) 0 h
-          , sumTo-le n {f = λ x. cond (tight W D u x && passed o k i x) (ψ x) 0} {g = λ x. cond (tight W D u x) (ψ x) 0}
-              (λ x _. narrows (tight W D u x) (passed o k i x) (ψ x)))
+        omega (
+          arith,
+          state .waiting u l (is-false _ (λ p. both h (none-back u p))),
+          pending-more u,
+          cond-true (ψ (o i)) 0 h,
+          sumTo-le n {f = λ x. cond (tight W D u x && passed o k i x) (ψ x) 0} {g = λ x. cond (tight W D u x) (ψ x) 0}
+              (λ x _. narrows (tight W D u x) (passed o k i x) (ψ x)),
+        )
 
     pub pushes-next : (f′ : ℕ → ℕ) → f′ (o i) ≡ σ (o i) * f (o i)
-      → ((u : ℕ) → u < n → u ≢ o i → f′ u ≡ f u + cond (tight W D u (o i)) (ψ (o i)) 0) → Pushing W n D σ ψ o k i f′
+        → ((u : ℕ) → u < n → u ≢ o i → f′ u ≡ f u + cond (tight W D u (o i)) (ψ (o i)) 0) → Pushing W n D σ ψ o k i f′
     pushes-next f′ settled adds = record { waiting = wait; done = finish }
       where
         wait : (v : ℕ) → v < n → passed o k i v ≡ false → f′ v ≡ pending W n D ψ o k i v
@@ -115,16 +118,16 @@ module _ (W : Costs) (n k : ℕ) (D σ ψ o : ℕ → ℕ) (order : Order n k D 
         finish : (v : ℕ) → v < n → passed o k i v ≡ true → f′ v ≡ σ v * outflow W n D ψ v
         finish v l h =
             split (eqb v (o i))
-              (λ e. rw (eqb-true v (o i) e) (settled ∙ ap (λ z. σ (o i) * z) flow-whole))
-              λ e.
-                let before : passed o k (suc i) v ≡ true = sym (other v e) ∙ h in
-                omega (arith, adds v l (eqb-false v (o i) e), cond-false (ψ (o i)) 0 (none-back v before), state .done v l before)
+            (λ e. rw (eqb-true v (o i) e) (settled ∙ ap (λ z. σ (o i) * z) flow-whole))
+            λ e.
+            let before : passed o k (suc i) v ≡ true = sym (other v e) ∙ h in
+            omega (arith, adds v l (eqb-false v (o i) e), cond-false (ψ (o i)) 0 (none-back v before), state .done v l before)
 
   -- after the last turn every stop has its share, also one that is not reached
   pub pushing-ends : (f : ℕ → ℕ) → Pushing W n D σ ψ o k 0 f → (v : ℕ) → v < n → f v ≡ σ v * outflow W n D ψ v
   pushing-ends f state v l =
       split (passed o k 0 v) (state .done v l) λ h.
-        let gone : seen o k v ≡ false = sym (and-true (seen o k v)) ∙ rw (seen-none o v) at h in
-        let none : (x : ℕ) → tight W D v x ≡ false = λ x. is-false _ (λ t. both (reached v l (tight-true W D v x t .reached)) gone) in
-        let still : outflow W n D ψ v ≡ 0 = sumTo-zero n (λ x _. cond-false (ψ x) 0 (none x)) in
-        state .waiting v l h ∙ sumTo-zero n (λ x _. cond-false {b = tight W D v x && passed o k 0 x} (ψ x) 0 (rw (none x))) ∙ sym (rw (still, mul-zero))
+      let gone : seen o k v ≡ false = sym (and-true (seen o k v)) ∙ rw (seen-none o v) at h in
+      let none : (x : ℕ) → tight W D v x ≡ false = λ x. is-false _ (λ t. both (reached v l (tight-true W D v x t .reached)) gone) in
+      let still : outflow W n D ψ v ≡ 0 = sumTo-zero n (λ x _. cond-false (ψ x) 0 (none x)) in
+      state .waiting v l h ∙ sumTo-zero n (λ x _. cond-false {b = tight W D v x && passed o k 0 x} (ψ x) 0 (rw (none x))) ∙ sym (rw (still, mul-zero))

@@ -47,18 +47,18 @@ offered false v x y e = record { lower = omega arith; taken = λ h. absurd (fals
 
 -- its predecessors then: those found before (q) where the time stays, and the stop that made the offer (e) where its offer is the time
 joined : (k q e : Bool) (v x y : ℕ) → y ≡ cond k (min v x) x
-  → cond k (cond (ltb v x) false q || (leb v x && e)) q ≡ ((q && eqb x y) || (e && (k && eqb v y)))
+    → cond k (cond (ltb v x) false q || (leb v x && e)) q ≡ ((q && eqb x y) || (e && (k && eqb v y)))
 joined false q e v x y h = sym (rw (eq-eqb x y (sym h), and-true, and-false) (or-false q))
 joined true q e v x y h =
     split (ltb v x)
-      (λ l. let less = ltb-true v x l in
-        rw (l, le-leb v x (omega arith), ne-eqb x y (omega arith), eq-eqb v y (omega arith), and-false) (sym (and-true e)))
-      λ l. let most = ltb-false v x l in
-        split (leb v x)
-          (λ m. let least = leb-true v x m in
-            rw (l, m, eq-eqb x y (omega arith), eq-eqb v y (omega arith)) (simp and-true))
-          λ m. let more = leb-false v x m in
-            rw (l, m, eq-eqb x y (omega arith), ne-eqb v y (omega arith)) (simp (and-true, and-false))
+    (λ l. let less = ltb-true v x l in
+    rw (l, le-leb v x (omega arith), ne-eqb x y (omega arith), eq-eqb v y (omega arith), and-false) (sym (and-true e)))
+    λ l. let most = ltb-false v x l in
+    split (leb v x)
+    (λ m. let least = leb-true v x m in
+    rw (l, m, eq-eqb x y (omega arith), eq-eqb v y (omega arith)) (simp and-true))
+    λ m. let more = leb-false v x m in
+    rw (l, m, eq-eqb x y (omega arith), ne-eqb v y (omega arith)) (simp (and-true, and-false))
 
 -- S are the settled stops, F the frontier, P t the predecessors found for t, d the times and w the counts so far
 pub record Settling (W : Costs) (n s : ℕ) (D σ : ℕ → ℕ) (S F : ℕ → Bool) (P : ℕ → ℕ → Bool) (d w : ℕ → ℕ) : Type 0 where
@@ -79,27 +79,26 @@ pub record Settling (W : Costs) (n s : ℕ) (D σ : ℕ → ℕ) (S F : ℕ → 
   pub frontier : (t : ℕ) → t < n → F t ≡ (not (S t) && not (eqb (d t) mark))
 
 module _ (W : Costs) (n s limit : ℕ) (D σ : ℕ → ℕ) (E1 : Times W n s D) (E2 : Counts W n s limit D σ)
-  (near : (u t : ℕ) → u < n → t < n → D u ≢ mark → D u + W u t < mark) where
-
+    (near : (u t : ℕ) → u < n → t < n → D u ≢ mark → D u + W u t < mark) where
   -- before the first turn the frontier is the source alone
   pub settling-starts : (S F : ℕ → Bool) (P : ℕ → ℕ → Bool) (d w : ℕ → ℕ) → s < n → ((t : ℕ) → S t ≡ false) → ((t : ℕ) → t < n → F t ≡ eqb t s)
-    → ((t u : ℕ) → t < n → P t u ≡ false) → ((t : ℕ) → t < n → d t ≡ cond (eqb t s) 0 mark) → ((t : ℕ) → t < n → w t ≡ seed s t) → Settling W n s D σ S F P d w
+      → ((t u : ℕ) → t < n → P t u ≡ false) → ((t : ℕ) → t < n → d t ≡ cond (eqb t s) 0 mark) → ((t : ℕ) → t < n → w t ≡ seed s t) → Settling W n s D σ S F P d w
   settling-starts S F P d w ls none first empty times counts =
-      record
-        { source = times s ls ∙ rw (eq-eqb s s refl)
-        ; inside = λ t h. absurd (both h (none t))
-        ; right = λ t h. absurd (both h (none t))
-        ; reached = λ t h. absurd (both h (none t))
-        ; counted = λ t h. absurd (both h (none t))
-        ; linked = λ t u h. absurd (both h (none t))
-        ; above = λ t l. start-above t l (eqb t s) refl
-        ; bounded = λ t l. start-bounded t l (eqb t s) refl
-        ; relaxed = λ u t l h. absurd (both h (none u))
-        ; parents = λ t u l k f. rw (none u) (empty t u l)
-        ; ahead = λ u t l h. absurd (both h (none u))
-        ; none = λ t l f. counts t l
-        ; frontier = λ t l. rw (none t, first t l) (start-frontier t l (eqb t s) refl)
-        }
+      record {
+        source = times s ls ∙ rw (eq-eqb s s refl);
+        inside = λ t h. absurd (both h (none t));
+        right = λ t h. absurd (both h (none t));
+        reached = λ t h. absurd (both h (none t));
+        counted = λ t h. absurd (both h (none t));
+        linked = λ t u h. absurd (both h (none t));
+        above = λ t l. start-above t l (eqb t s) refl;
+        bounded = λ t l. start-bounded t l (eqb t s) refl;
+        relaxed = λ u t l h. absurd (both h (none u));
+        parents = λ t u l k f. rw (none u) (empty t u l);
+        ahead = λ u t l h. absurd (both h (none u));
+        none = λ t l f. counts t l;
+        frontier = λ t l. rw (none t, first t l) (start-frontier t l (eqb t s) refl);
+      }
     where
       start-above : (t : ℕ) → t < n → (e : Bool) → eqb t s ≡ e → D t ≤ d t
       start-above t l true e = omega (arith, ap D (eqb-true t s e), E1 .source)
@@ -118,12 +117,12 @@ module _ (W : Costs) (n s limit : ℕ) (D σ : ℕ → ℕ) (E1 : Times W n s D)
     unsettled-above : (y : ℕ) → y ≤ mark → ((t : ℕ) → t < n → S t ≡ false → y ≤ d t) → (t : ℕ) → t < n → S t ≡ false → y ≤ D t
     unsettled-above y top low = up-ind D n λ t l lower f.
         split (eqb t s) (λ e. omega (arith, low t l f, ap d (eqb-true t s e), ap D (eqb-true t s e), state .source, E1 .source)) λ e.
-          split (eqb (D t) mark) (λ m. omega (arith, eqb-true (D t) mark m)) λ m.
-            let (u, lu, h) = E1 .supported t l (eqb-false t s e) (eqb-false (D t) mark m) in
-            let q = tight-true W D u t h in
-            split (S u)
-              (λ su. omega (arith, low t l f, state .relaxed u t l su f (q .linked), q .exact))
-              (λ su. omega (arith, lower u lu (q .rises) su, q .rises))
+        split (eqb (D t) mark) (λ m. omega (arith, eqb-true (D t) mark m)) λ m.
+        let (u, lu, h) = E1 .supported t l (eqb-false t s e) (eqb-false (D t) mark m) in
+        let q = tight-true W D u t h in
+        split (S u)
+        (λ su. omega (arith, low t l f, state .relaxed u t l su f (q .linked), q .exact))
+        (λ su. omega (arith, lower u lu (q .rises) su, q .rises))
 
     -- where the frontier is empty, every row is right and every stop that is reached is settled
     module _ (empty : (t : ℕ) → t < n → F t ≡ false) where
@@ -144,12 +143,12 @@ module _ (W : Costs) (n s limit : ℕ) (D σ : ℕ → ℕ) (E1 : Times W n s D)
       pub ends-counted : (t : ℕ) → t < n → w t ≡ σ t
       ends-counted t l =
           split (S t) (state .counted t) λ f.
-            let far = unreached t l f in
-            let other : t ≢ s = λ e. lt-irrefl 0 (omega (arith, ap D e, E1 .source)) in
-            let none : inflow W n D σ t ≡ 0 = flow-zero n (λ u. tight W D u t) σ λ u k h.
-                let q = tight-true W D u t h in
-                absurd (lt-irrefl mark (omega (arith, near u t k l (q .reached), q .exact))) in
-            omega (arith, state .none t l f, cond-false {A = ℕ} 1 0 (ne-eqb t s other), E2 .summed t l other)
+          let far = unreached t l f in
+          let other : t ≢ s = λ e. lt-irrefl 0 (omega (arith, ap D e, E1 .source)) in
+          let none : inflow W n D σ t ≡ 0 = flow-zero n (λ u. tight W D u t) σ λ u k h.
+          let q = tight-true W D u t h in
+          absurd (lt-irrefl mark (omega (arith, near u t k l (q .reached), q .exact))) in
+          omega (arith, state .none t l f, cond-false {A = ℕ} 1 0 (ne-eqb t s other), E2 .summed t l other)
 
     -- a settled stop comes before every unsettled one
     pub settled-first : (u t : ℕ) → t < n → S u ≡ true → S t ≡ false → d t ≡ D t → D u ≤ D t
@@ -171,7 +170,7 @@ module _ (W : Costs) (n s limit : ℕ) (D σ : ℕ → ℕ) (E1 : Times W n s D)
       b-first : (t : ℕ) → t < n → S t ≡ false → d b ≤ d t
       b-first t l f =
           split (eqb (d t) mark) (λ m. omega (arith, eqb-true (d t) mark m, state .bounded b lb)) λ m.
-            low t l (state .frontier t l ∙ rw (f, m))
+          low t l (state .frontier t l ∙ rw (f, m))
 
       -- its time is right
       pub b-right : d b ≡ D b
@@ -184,7 +183,7 @@ module _ (W : Costs) (n s limit : ℕ) (D σ : ℕ → ℕ) (E1 : Times W n s D)
       b-after : (u : ℕ) → u < n → D u < D b → S u ≡ true
       b-after u l r =
           split (S u) (λ e. e) λ f.
-            absurd (lt-irrefl (D u) (omega (arith, unsettled-above (d b) (state .bounded b lb) b-first u l f, b-right)))
+          absurd (lt-irrefl (D u) (omega (arith, unsettled-above (d b) (state .bounded b lb) b-first u l f, b-right)))
 
       -- its predecessors are right
       b-linked : (u : ℕ) → u < n → P b u ≡ tight W D u b
@@ -219,13 +218,12 @@ module _ (W : Costs) (n s limit : ℕ) (D σ : ℕ → ℕ) (E1 : Times W n s D)
 
       -- the turn: b is settled and offers its links to the unsettled stops
       module _ (S′ F′ : ℕ → Bool) (P′ : ℕ → ℕ → Bool) (d′ w′ : ℕ → ℕ) (ls : s < n)
-        (settles : (t : ℕ) → S′ t ≡ (S t || eqb t b))
-        (tallies : w′ b ≡ min (suc limit) (w b + sumTo n (λ u. cond (P b u) (w u) 0)))
-        (keeps : (t : ℕ) → t ≢ b → w′ t ≡ w t)
-        (lowers : (t : ℕ) → t < n → d′ t ≡ cond (link W b t && not (S′ t)) (min (d b + W b t) (d t)) (d t))
-        (joins : (t u : ℕ) → t < n → u < n → P′ t u ≡ cond (link W b t && not (S′ t)) (cond (ltb (d b + W b t) (d t)) false (P t u) || (leb (d b + W b t) (d t) && eqb u b)) (P t u))
-        (moves : (t : ℕ) → t < n → F′ t ≡ ((F t || (link W b t && not (S′ t))) && not (eqb t b))) where
-
+          (settles : (t : ℕ) → S′ t ≡ (S t || eqb t b))
+          (tallies : w′ b ≡ min (suc limit) (w b + sumTo n (λ u. cond (P b u) (w u) 0)))
+          (keeps : (t : ℕ) → t ≢ b → w′ t ≡ w t)
+          (lowers : (t : ℕ) → t < n → d′ t ≡ cond (link W b t && not (S′ t)) (min (d b + W b t) (d t)) (d t))
+          (joins : (t u : ℕ) → t < n → u < n → P′ t u ≡ cond (link W b t && not (S′ t)) (cond (ltb (d b + W b t) (d t)) false (P t u) || (leb (d b + W b t) (d t) && eqb u b)) (P t u))
+          (moves : (t : ℕ) → t < n → F′ t ≡ ((F t || (link W b t && not (S′ t))) && not (eqb t b))) where
         was : (A : Type 0) (t : ℕ) → S′ t ≡ true → (S t ≡ true → A) → (t ≡ b → A) → A
         was A t h f g = split (S t) f λ e. g (eqb-true t b (sym (rw e at (settles t)) ∙ h))
 
@@ -267,8 +265,8 @@ module _ (W : Costs) (n s limit : ℕ) (D σ : ℕ → ℕ) (E1 : Times W n s D)
         counted′ : (t : ℕ) → S′ t ≡ true → w′ t ≡ σ t
         counted′ t h =
             was (w′ t ≡ σ t) t h
-              (λ f. keeps t (λ e. both f (rw e (b-waits .0))) ∙ state .counted t f)
-              (λ e. rw e (tallies ∙ b-counted))
+            (λ f. keeps t (λ e. both f (rw e (b-waits .0))) ∙ state .counted t f)
+            (λ e. rw e (tallies ∙ b-counted))
 
         linked′ : (t u : ℕ) → S′ t ≡ true → u < n → P′ t u ≡ tight W D u t
         linked′ t u h l =
@@ -281,8 +279,8 @@ module _ (W : Costs) (n s limit : ℕ) (D σ : ℕ → ℕ) (E1 : Times W n s D)
         relaxed′ : (u t : ℕ) → t < n → S′ u ≡ true → S′ t ≡ false → link W u t ≡ true → d′ t ≤ D u + W u t
         relaxed′ u t l hu ht k =
             was (d′ t ≤ D u + W u t) u hu
-              (λ f. omega (arith, falls t l, state .relaxed u t l f (wasn't t ht .0) k))
-              (λ e. rw e (offer t l ht .taken (rw e at k)))
+            (λ f. omega (arith, falls t l, state .relaxed u t l f (wasn't t ht .0) k))
+            (λ e. rw e (offer t l ht .taken (rw e at k)))
 
         -- settled stops are not after b, nor unsettled ones before it
         ahead′ : (u t : ℕ) → t < n → S′ u ≡ true → S′ t ≡ false → D u ≤ d′ t
@@ -310,7 +308,7 @@ module _ (W : Costs) (n s limit : ℕ) (D σ : ℕ → ℕ) (E1 : Times W n s D)
                 rw (found, settles u, e) (simp or-false (bool-iff _ _ there back))
               where
                 there : ((S u && (link W u t && eqb (D u + W u t) (d t))) && eqb (d t) (d′ t)) ≡ true → (S u && (link W u t && eqb (D u + W u t) (d′ t))) ≡ true
-                there g = 
+                there g =
                     let (p, q) = and-eq-true-iff (S u && (link W u t && eqb (D u + W u t) (d t))) (eqb (d t) (d′ t)) .0 g in
                     let (a, k, m) = and-three (S u) (link W u t) (eqb (D u + W u t) (d t)) p in
                     three-and a k (eq-eqb (D u + W u t) (d′ t) (eqb-true (D u + W u t) (d t) m ∙ eqb-true (d t) (d′ t) q))
@@ -328,37 +326,37 @@ module _ (W : Costs) (n s limit : ℕ) (D σ : ℕ → ℕ) (E1 : Times W n s D)
             settled : S′ t ≡ true → ((F t || (link W b t && not (S′ t))) && not (eqb t b)) ≡ (not (S′ t) && not (eqb (d′ t) mark))
             settled h =
                 rw (h, and-false, or-false)
-                  (was ((F t && not (eqb t b)) ≡ false) t h (λ f. rw (state .frontier t l, f)) (λ e. rw (eq-eqb t b e) (and-false (F t))))
+                (was ((F t && not (eqb t b)) ≡ false) t h (λ f. rw (state .frontier t l, f)) (λ e. rw (eq-eqb t b e) (and-false (F t))))
 
             waiting : S′ t ≡ false → ((F t || (link W b t && not (S′ t))) && not (eqb t b)) ≡ (not (S′ t) && not (eqb (d′ t) mark))
             waiting h =
                 let o = offer t l h in
                 rw (h, ne-eqb t b (wasn't t h .1), state .frontier t l, wasn't t h .0)
-                  (simp and-true (split (eqb (d′ t) mark)
-                    (λ m. let far = eqb-true (d′ t) mark m in
-                      split (link W b t)
-                        (λ k. absurd (lt-irrefl mark (omega (arith, o .taken k, near b t lb l b-reached))))
-                        (λ k. rw (m, k, eq-eqb (d t) mark (omega (arith, o .lower, state .bounded t l)))))
-                    (λ m. let close = eqb-false (d′ t) mark m in
-                      split (link W b t)
-                        (λ k. rw (m, k) (or-true (not (eqb (d t) mark))))
-                        (λ k. rw (m, k, ne-eqb (d t) mark (λ e. close (o .kept k ∙ e)))))))
+                (simp and-true (split (eqb (d′ t) mark)
+                (λ m. let far = eqb-true (d′ t) mark m in
+                split (link W b t)
+                (λ k. absurd (lt-irrefl mark (omega (arith, o .taken k, near b t lb l b-reached))))
+                (λ k. rw (m, k, eq-eqb (d t) mark (omega (arith, o .lower, state .bounded t l)))))
+                (λ m. let close = eqb-false (d′ t) mark m in
+                split (link W b t)
+                (λ k. rw (m, k) (or-true (not (eqb (d t) mark))))
+                (λ k. rw (m, k, ne-eqb (d t) mark (λ e. close (o .kept k ∙ e)))))))
 
         -- the turn keeps what holds
         pub settles-next : Settling W n s D σ S′ F′ P′ d′ w′
         settles-next =
-            record
-              { source = source′
-              ; inside = inside′
-              ; right = λ t h. stays t (inside′ t h) h ∙ right′ t h
-              ; reached = λ t h. was (D t ≢ mark) t h (state .reached t) (λ e. rw e b-reached)
-              ; counted = counted′
-              ; linked = linked′
-              ; above = above′
-              ; bounded = λ t l. omega (arith, falls t l, state .bounded t l)
-              ; relaxed = relaxed′
-              ; parents = parents″
-              ; ahead = ahead′
-              ; none = none′
-              ; frontier = frontier′
-              }
+            record {
+              source = source′;
+              inside = inside′;
+              right = λ t h. stays t (inside′ t h) h ∙ right′ t h;
+              reached = λ t h. was (D t ≢ mark) t h (state .reached t) (λ e. rw e b-reached);
+              counted = counted′;
+              linked = linked′;
+              above = above′;
+              bounded = λ t l. omega (arith, falls t l, state .bounded t l);
+              relaxed = relaxed′;
+              parents = parents″;
+              ahead = ahead′;
+              none = none′;
+              frontier = frontier′;
+            }

@@ -48,7 +48,7 @@ pub record Turn (n s limit : ℕ) (cost out time ways pred order : List ℕ) (do
   pub below : (t : ℕ) → has frontier t ≡ true → t < n
   pub behind : (t u : ℕ) → t < n → has (getD pred t 0) u ≡ true → u < n
   pub state : Settling (masked n cost out) n s (leastTime (masked n cost out) n s) (cappedWays (masked n cost out) n s limit)
-    (has done) (has frontier) (λ t u. has (getD pred t 0) u) (λ t. getD time t 0) (λ t. getD ways t 0)
+      (has done) (has frontier) (λ t u. has (getD pred t 0) u) (λ t. getD time t 0) (λ t. getD ways t 0)
   pub ordered : Order n k (leastTime (masked n cost out) n s) (λ i. getD order i 0)
   pub settled : (t : ℕ) → has done t ≡ seen (λ i. getD order i 0) k t
 
@@ -99,8 +99,10 @@ old-parent f l false m e h z = absurd (both h (rw z (none f l m)))
 module _ (n s limit : ℕ) (cost out : List ℕ) (g : Ground n s limit cost out) where
   abbrev W : Costs
   W = masked n cost out
+
   abbrev D : ℕ → ℕ
   D = leastTime W n s
+
   abbrev σ : ℕ → ℕ
   σ = cappedWays W n s limit
 
@@ -139,9 +141,9 @@ module _ (n s limit : ℕ) (cost out : List ℕ) (g : Ground n s limit cost out)
         below = λ t h. rw (eqb-true t s (sym (has-pow s t) ∙ h)) (g .source);
         behind = λ t u l h. absurd (both h (none t u));
         state = settling-starts W n s limit D σ E1 E2 near (has 0) (has (2 ^ s)) (λ t u. has (getD pred t 0) u) (λ t. getD time t 0) (λ t. getD ways t 0)
-          (g .source) has-none (λ t _. has-pow s t) (λ t u _. none t u) (c .times) (c .counts);
+            (g .source) has-none (λ t _. has-pow s t) (λ t u _. none t u) (c .times) (c .counts);
         ordered = order-none n D (λ i. getD order i 0);
-        settled = λ t. has-none t ∙ sym (seen-none (λ i. getD order i 0) t)
+        settled = λ t. has-none t ∙ sym (seen-none (λ i. getD order i 0) t);
       }
     where
       none : (t u : ℕ) → has (getD pred t 0) u ≡ false
@@ -218,27 +220,26 @@ module _ (n s limit : ℕ) (cost out : List ℕ) (g : Ground n s limit cost out)
             room = turn .room;
             below = λ t h. g .linked b t turn-inside (fresh-link t h) .0;
             fits = λ t h.
-              let l = g .linked b t turn-inside (fresh-link t h) .0 in
-              omega (arith, via-at t h, near b t turn-inside l turn-reached)
+                let l = g .linked b t turn-inside (fresh-link t h) .0 in
+                omega (arith, via-at t h, near b t turn-inside l turn-reached);
           }
 
       -- the turn keeps what holds
       module _ (time′ pred′ : List ℕ) (count frontier′ : ℕ) (counts : count ≡ min (suc limit) (getD ways b 0 + sumOver ways (getD pred b 0)))
-        (offered : Offered n b fresh cost time pred time′ pred′) (timed′ : length time′ ≡ length time) (room′ : length pred′ ≡ length pred)
-        (moves : frontier′ ≡ bitAnd (bitOr frontier fresh) ((2 ^ 64 - 1) - bit)) where
-
+          (offered : Offered n b fresh cost time pred time′ pred′) (timed′ : length time′ ≡ length time) (room′ : length pred′ ≡ length pred)
+          (moves : frontier′ ≡ bitAnd (bitOr frontier fresh) ((2 ^ 64 - 1) - bit)) where
         lowers : (t : ℕ) → t < n → getD time′ t 0 ≡ cond (link W b t && not (has done′ t)) (min (getD time b 0 + W b t) (getD time t 0)) (getD time t 0)
         lowers t l =
             offered .times t
             ∙ split (has fresh t) (λ h. rw (h, sym (fresh-at t l) ∙ h, fresh-link t h)) (λ h. rw (h, sym (fresh-at t l) ∙ h))
 
         joins : (t u : ℕ) → t < n → has (getD pred′ t 0) u ≡ cond (link W b t && not (has done′ t))
-          (cond (ltb (getD time b 0 + W b t) (getD time t 0)) false (has (getD pred t 0) u) || (leb (getD time b 0 + W b t) (getD time t 0) && eqb u b)) (has (getD pred t 0) u)
+            (cond (ltb (getD time b 0 + W b t) (getD time t 0)) false (has (getD pred t 0) u) || (leb (getD time b 0 + W b t) (getD time t 0) && eqb u b)) (has (getD pred t 0) u)
         joins t u l =
             ap (λ x. has x u) (offered .preds t)
             ∙ split (has fresh t)
-              (λ h. rw (h, sym (fresh-at t l) ∙ h, fresh-link t h) (has-joined (viaOf n b cost time t) (getD time t 0) b (getD pred t 0) u))
-              (λ h. rw (h, sym (fresh-at t l) ∙ h))
+            (λ h. rw (h, sym (fresh-at t l) ∙ h, fresh-link t h) (has-joined (viaOf n b cost time t) (getD time t 0) b (getD pred t 0) u))
+            (λ h. rw (h, sym (fresh-at t l) ∙ h))
 
         front-at : (t : ℕ) → t < n → has frontier′ t ≡ ((has frontier t || (link W b t && not (has done′ t))) && not (eqb t b))
         front-at t l = rw (moves, one, has-and, has-or, has-not 64 (2 ^ b) t (one-word b turn-inside) (omega (arith, g .most)), has-pow, fresh-at t l)
@@ -247,14 +248,14 @@ module _ (n s limit : ℕ) (cost out : List ℕ) (g : Ground n s limit cost out)
         below′ t h =
             let m = and-eq-true-iff (has (bitOr frontier fresh) t) _ .0 (sym (has-and (bitOr frontier fresh) _ t) ∙ rw moves at h) .0 in
             split (has frontier t) (turn .below t) λ f.
-              g .linked b t turn-inside (fresh-link t (sym (rw f at (has-or frontier fresh t)) ∙ m)) .0
+            g .linked b t turn-inside (fresh-link t (sym (rw f at (has-or frontier fresh t)) ∙ m)) .0
 
         behind′ : (t u : ℕ) → t < n → has (getD pred′ t 0) u ≡ true → u < n
         behind′ t u l h =
             split (eqb u b) (λ e. rw (eqb-true u b e) turn-inside) λ e.
-              turn .behind t u l
-                (old-parent (link W b t && not (has done′ t)) (ltb (getD time b 0 + W b t) (getD time t 0)) (has (getD pred t 0) u)
-                  (leb (getD time b 0 + W b t) (getD time t 0)) (eqb u b) (sym (joins t u l) ∙ h) e)
+            turn .behind t u l
+            (old-parent (link W b t && not (has done′ t)) (ltb (getD time b 0 + W b t) (getD time t 0)) (has (getD pred t 0) u)
+            (leb (getD time b 0 + W b t) (getD time t 0)) (eqb u b) (sym (joins t u l) ∙ h) e)
 
         here : getD (set order k b) k 0 ≡ b
         here = getD-set-same order k b 0 (turn-bounds .4)
@@ -269,7 +270,7 @@ module _ (n s limit : ℕ) (cost out : List ℕ) (g : Ground n s limit cost out)
         settled′ : (t : ℕ) → has done′ t ≡ seen (λ i. getD (set order k b) i 0) (suc k) t
         settled′ t =
             settles t ∙ rw (turn .settled t)
-              (sym (seen-more (λ i. getD (set order k b) i 0) k t ∙ rw (here, seen-cong k t before)))
+            (sym (seen-more (λ i. getD (set order k b) i 0) k t ∙ rw (here, seen-cong k t before)))
 
         pub turn-goes : Turn n s limit cost out time′ (set ways b count) pred′ (set order k b) done′ frontier′ (k + 1)
         turn-goes = subst⁻¹ (λ j. Turn n s limit cost out time′ (set ways b count) pred′ (set order k b) done′ frontier′ j) (add-one k)
@@ -283,10 +284,10 @@ module _ (n s limit : ℕ) (cost out : List ℕ) (g : Ground n s limit cost out)
               below = below′;
               behind = behind′;
               state = settles-next W n s limit D σ E1 E2 near _ _ _ _ _ (turn .state) b turn-inside (q .member) low
-                (has done′) (has frontier′) (λ t u. has (getD pred′ t 0) u) (λ t. getD time′ t 0) (λ t. getD (set ways b count) t 0) (g .source)
-                settles (getD-set-same ways b count 0 (turn-bounds .1) ∙ counts ∙ ap (λ m. min (suc limit) (getD ways b 0 + sumTo m (λ u. cond (has (getD pred b 0) u) (getD ways u 0) 0))) (turn .counted)) (λ t e. getD-set-other ways b t count 0 e) lowers (λ t u l _. joins t u l) front-at;
+                  (has done′) (has frontier′) (λ t u. has (getD pred′ t 0) u) (λ t. getD time′ t 0) (λ t. getD (set ways b count) t 0) (g .source)
+                  settles (getD-set-same ways b count 0 (turn-bounds .1) ∙ counts ∙ ap (λ m. min (suc limit) (getD ways b 0 + sumTo m (λ u. cond (has (getD pred b 0) u) (getD ways u 0) 0))) (turn .counted)) (λ t e. getD-set-other ways b t count 0 e) lowers (λ t u l _. joins t u l) front-at;
               ordered = ordered′;
-              settled = settled′
+              settled = settled′;
             }
 
   -- after the last turn
@@ -299,7 +300,7 @@ module _ (n s limit : ℕ) (cost out : List ℕ) (g : Ground n s limit cost out)
         linked = λ t u lt lu r. c .state .linked t u (settled t lt r) lu;
         ordered = c .ordered;
         complete = λ t l r. sym (c .settled t) ∙ settled t l r;
-        found = λ t h. c .state .reached t (c .settled t ∙ h)
+        found = λ t h. c .state .reached t (c .settled t ∙ h);
       }
     where
       empty : (t : ℕ) → t < n → has 0 t ≡ false

@@ -37,8 +37,8 @@ module _ (x : ℕ) (old : List ℕ) where
       record {
         long = length-set now i x ∙ c .long;
         same = λ t m. split (eqb t i)
-          (λ e. rw (eqb-true t i e) (getD-set-same now i x 0 (omega (arith, c .long))))
-          (λ e. let other = eqb-false t i e in getD-set-other now i t x 0 other ∙ c .same t (omega arith))
+            (λ e. rw (eqb-true t i e) (getD-set-same now i x 0 (omega (arith, c .long))))
+            (λ e. let other = eqb-false t i e in getD-set-other now i t x 0 other ∙ c .same t (omega arith));
       }
 
 -- the stop t is not crowded
@@ -55,8 +55,8 @@ over limit x = split (leb x limit)
 all-cong : (n : ℕ) (p q : ℕ → Bool) → ((t : ℕ) → t < n → p t ≡ q t) → allTo n p ≡ allTo n q
 all-cong n p q h =
     bool-iff (allTo n p) (allTo n q)
-      (λ a. all-of n q (λ t l. sym (h t l) ∙ all-true n p a t l))
-      (λ a. all-of n p (λ t l. h t l ∙ all-true n q a t l))
+    (λ a. all-of n q (λ t l. sym (h t l) ∙ all-true n p a t l))
+    (λ a. all-of n p (λ t l. h t l ∙ all-true n q a t l))
 
 -- counting up to one more than the limit tells as much
 capped-within : (limit x : ℕ) → leb (min (suc limit) x) limit ≡ leb x limit
@@ -79,7 +79,7 @@ crowded-more limit i list = rw (add-one i) (both (allTo i (within limit list)) (
 
 -- the lists that the settle loop starts from
 pub begun : (n s top : ℕ) (time₀ ways₀ time ways : List ℕ) → s < n → top ≡ mark → length time₀ ≡ n → length ways₀ ≡ n → Wiped top (length time₀) time₀ time
-  → Wiped 0 (length ways₀) ways₀ ways → Begun n s (set time s 0) (set ways s 1) (replicate 64 0) (replicate 64 0)
+    → Wiped 0 (length ways₀) ways₀ ways → Begun n s (set time s 0) (set ways s 1) (replicate 64 0) (replicate 64 0)
 begun n s top time₀ ways₀ time ways ls marked lt lw wt ww =
     record {
       timed = length-set time s 0 ∙ wt .long ∙ lt;
@@ -87,24 +87,27 @@ begun n s top time₀ ways₀ time ways ls marked lt lw wt ww =
       room = length-replicate {A = ℕ} 64 0;
       queue = length-replicate {A = ℕ} 64 0;
       times = λ t l. split (eqb t s)
-        (λ e. rw (e, eqb-true t s e) (getD-set-same time s 0 0 (omega (arith, wt .long))))
-        (λ e. rw e (getD-set-other time s t 0 0 (eqb-false t s e) ∙ wt .same t (omega arith) ∙ marked));
+          (λ e. rw (e, eqb-true t s e) (getD-set-same time s 0 0 (omega (arith, wt .long))))
+          (λ e. rw e (getD-set-other time s t 0 0 (eqb-false t s e) ∙ wt .same t (omega arith) ∙ marked));
       counts = λ t l. split (eqb t s)
-        (λ e. rw (e, eqb-true t s e) (getD-set-same ways s 1 0 (omega (arith, ww .long))))
-        (λ e. rw e (getD-set-other ways s t 1 0 (eqb-false t s e) ∙ ww .same t (omega arith)));
+          (λ e. rw (e, eqb-true t s e) (getD-set-same ways s 1 0 (omega (arith, ww .long))))
+          (λ e. rw e (getD-set-other ways s t 1 0 (eqb-false t s e) ∙ ww .same t (omega arith)));
       preds = λ t. split (ltb t 64)
-        (λ e. getD-replicate 64 t 0 0 (ltb-true t 64 e))
-        (λ e. List·getD-eq-default (replicate 64 0) 0 {n = t} (omega (arith, ltb-false t 64 e, length-replicate {A = ℕ} 64 0)))
+          (λ e. getD-replicate 64 t 0 0 (ltb-true t 64 e))
+          (λ e. List·getD-eq-default (replicate 64 0) 0 {n = t} (omega (arith, ltb-false t 64 e, length-replicate {A = ℕ} 64 0)));
     }
 
 module _ (n s scale limit top k : ℕ) (cost out time ways pred order : List ℕ) (task : Task n s cost out scale limit top)
-  (settled : Settled (masked n cost out) n s limit time ways pred order k) where
+    (settled : Settled (masked n cost out) n s limit time ways pred order k) where
   abbrev W : Costs
   W = masked n cost out
+
   abbrev D : ℕ → ℕ
   D = leastTime W n s
+
   abbrev σ : ℕ → ℕ
   σ = cappedWays W n s limit
+
   abbrev ψ : ℕ → ℕ
   ψ = flowBack W n s limit scale
 
@@ -133,11 +136,11 @@ module _ (n s scale limit top k : ℕ) (cost out time ways pred order : List ℕ
         some = λ t l r. omega (arith, F .reached t l r);
         flowing = flowing W n s F limit scale;
         back = back-le W n s F limit scale;
-        shared = capped-back-le W n s F limit scale
+        shared = capped-back-le W n s F limit scale;
       }
 
   pub waits : (share₀ share : List ℕ) → length ways ≡ n → length pred ≡ 64 → length order ≡ 64 → length share₀ ≡ n → Wiped 0 (length share₀) share₀ share
-    → Waits k scale limit ways pred order share
+      → Waits k scale limit ways pred order share
   waits share₀ share lw lp lo ls wiped =
       record {
         costs = W;
@@ -146,21 +149,21 @@ module _ (n s scale limit top k : ℕ) (cost out time ways pred order : List ℕ
         owing = owing lw lp lo;
         long = wiped .long ∙ ls;
         zeros = λ v. split (ltb v (length share))
-          (λ e. let l = ltb-true v (length share) e in wiped .same v (omega (arith, wiped .long)))
-          (λ e. List·getD-eq-default share 0 (ltb-false v (length share) e))
+            (λ e. let l = ltb-true v (length share) e in wiped .same v (omega (arith, wiped .long)))
+            (λ e. List·getD-eq-default share 0 (ltb-false v (length share) e));
       }
 
   -- the row is whole
   pub filled : (share : List ℕ) (r : Bool) → length time ≡ n → length ways ≡ n → length share ≡ n → (length pred ≡ 64) → (length order ≡ 64)
-    → Paid k scale limit ways pred order share → r ≡ not (allTo (length ways) (within limit ways)) → Filled W n s limit scale time ways (set share s 0) r
+      → Paid k scale limit ways pred order share → r ≡ not (allTo (length ways) (within limit ways)) → Filled W n s limit scale time ways (set share s 0) r
   filled share r lt lw ls lp lo paid e =
       record {
         row = record {
           times = listTo-of n D 0 time lt (settled .times);
           counts = listTo-of n σ 0 ways lw (settled .counts);
-          shares = listTo-of n (openShare W n s limit scale) 0 (set share s 0) (length-set share s 0 ∙ ls) shared
+          shares = listTo-of n (openShare W n s limit scale) 0 (set share s 0) (length-set share s 0 ∙ ls) shared;
         };
-        over = e ∙ ap not few
+        over = e ∙ ap not few;
       }
     where
       few : allTo (length ways) (within limit ways) ≡ allTo n (λ t. leb (waysOf W n s t) limit)
@@ -173,4 +176,4 @@ module _ (n s scale limit top k : ℕ) (cost out time ways pred order : List ℕ
       shared v l = split (eqb v s)
           (λ e. rw (eqb-true v s e) (getD-set-same share s 0 0 (omega (arith, task .source)) ∙ sym (E3 .source)))
           (λ e. let other = eqb-false v s e in
-            getD-set-other share s v 0 0 other ∙ paid W n s (owing lw lp lo) v l ∙ sym (E3 .shared v l other))
+          getD-set-other share s v 0 0 other ∙ paid W n s (owing lw lp lo) v l ∙ sym (E3 .shared v l other))

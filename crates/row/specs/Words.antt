@@ -22,7 +22,7 @@ module _ (time : List ℕ) (set : ℕ) where
       record {
         member = p .member;
         inside = λ u h. popped-kept p u h .0;
-        least = λ u h f. rw (popped-gone p u h f) (le-refl (getD time t 0))
+        least = λ u h f. rw (popped-gone p u h f) (le-refl (getD time t 0));
       }
 
   pub choosing-goes : {left best t rest r : ℕ} → Choosing time set left best → Popped left t rest → Nearer time best t r → Choosing time set rest r
@@ -31,8 +31,8 @@ module _ (time : List ℕ) (set : ℕ) where
         member = q .one (has set) (c .member) (c .inside t (p .member));
         inside = λ u h. c .inside u (popped-kept p u h .0);
         least = λ u h f. split (has left u)
-          (λ m. rw (popped-gone p u m f) (q .right))
-          (λ m. omega (arith, q .left, c .least u h m))
+            (λ m. rw (popped-gone p u m f) (q .right))
+            (λ m. omega (arith, q .left, c .least u h m));
       }
 
   pub choosing-ends : {best : ℕ} → Choosing time set 0 best → Nearest time set best
@@ -49,12 +49,12 @@ module _ (limit first set : ℕ) (ways : List ℕ) (asked : Tally limit first se
   tallying-starts = record { capped = asked .start; inside = λ t h. h; total = refl }
 
   pub tallying-goes : {left count t rest r : ℕ} → Tallying limit first set ways left count → Popped left t rest
-    → r ≡ min (suc limit) (count + getD ways t 0) → Tallying limit first set ways rest r
+      → r ≡ min (suc limit) (count + getD ways t 0) → Tallying limit first set ways rest r
   tallying-goes {left} {count} {t} {rest} {r} c p e =
       record {
         capped = omega arith;
         inside = λ u h. c .inside u (popped-kept p u h .0);
-        total = omega (arith, c .total, sum-popped (length ways) (λ u. getD ways u 0) p (asked .below t (c .inside t (p .member))))
+        total = omega (arith, c .total, sum-popped (length ways) (λ u. getD ways u 0) p (asked .below t (c .inside t (p .member))));
       }
 
   pub tallying-ends : {count : ℕ} → Tallying limit first set ways 0 count → count ≡ min (suc limit) (first + sumOver ways set)

@@ -1,8 +1,10 @@
 // One source's row of a hall: the least time, the ways and the share of every stop.
 // Links are those of the masks: `out[u]` has bit t where the link u to t counts.
+pub mod check;
+pub mod masks;
 mod push;
-mod settle;
 mod sets;
+mod settle;
 
 ghost use mathlib.Core.Path.{_≡_};
 ghost use mathlib.Core.Bool.{not};

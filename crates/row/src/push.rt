@@ -1,6 +1,5 @@
 // The shares of a row, from far stops to near ones.
 use super::sets;
-
 ghost use mathlib.Core.Path.{_≡_};
 ghost use Prim.Native.Nat.{_<_};
 ghost use lib.ListN.{length};
@@ -8,7 +7,15 @@ ghost use Rattle.routes.specs.Equations.{quotient};
 ghost use Rattle.row.specs.Owing.{Adds, Added, Waits, Paid};
 
 // Adds up the shares of the first k stops of an order. While a stop waits, its share holds what flows back to it.
-pub fn accumulate(k: usize, scale: u64, limit: u32, ways: &[u32], pred: &[u64], order: &[usize], share: &mut [u64])
+pub fn accumulate(
+    k: usize,
+    scale: u64,
+    limit: u32,
+    ways: &[u32],
+    pred: &[u64],
+    order: &[usize],
+    share: &mut [u64],
+)
     requires { ⌜ Waits k scale limit (now ways) (now pred) (now order) (now share) ⌝ }
     ensures { λ _. ⌜ Paid k scale limit (now (ways .entry)) (now (pred .entry)) (now (order .entry)) (now (share .exit)) ⌝ }
 {

@@ -1,6 +1,5 @@
 // Dijkstra's algorithm: stops are settled from near to far.
 use super::sets;
-
 ghost use mathlib.Core.Path.{_≡_};
 ghost use Prim.Native.Nat.{ℕ, suc, _+_, _<_, _≤_, min};
 ghost use lib.ListN.{length};

@@ -70,7 +70,7 @@ accumulate-requires : tie.Need-accumulate-requires
 accumulate-requires c κs =
     let b = begun _ _ _ _ _ _ _ ((c .before .before .before .before .before .before .before .before .before .before .before .before .before .before .before .before .before .before .before .before .before .before .before .before .before .before .before .before .before .before .before) .pre .0 .source) ((c .before .before .before .before .before .before .before .before .before .before .before .before .before .before .before .before .before .before .before .before .before .before .before .before .before .before .before .before .before .before .before) .pre .0 .marked) ((c .before .before .before .before .before .before .before .before .before .before .before .before .before .before .before .before .before .before .before .before .before .before .before .before .before .before .before .before .before .before .before) .pre .1 .0) ((c .before .before .before .before .before .before .before .before .before .before .before .before .before .before .before .before .before .before .before .before .before .before .before .before .before .before .before .before .before .before .before) .pre .1 .1 .0) ((c .before .before .before .before .before .before .before .before .before .before .before .before .before .before .before .before .before .before .before .before .before .before .before .before .before) .wipe .ensures) ((c .before .before .before .before .before .before .before .before .before .before .before .before .before .before .before .before .before .before .before .before .before) .wipe2 .ensures) in
     waits _ _ _ _ _ _ _ _ _ _ _ _ ((c .before .before .before .before .before .before .before .before .before .before .before .before .before .before .before .before .before .before .before .before .before .before .before .before .before .before .before .before .before .before .before) .pre .0) ((c .before .before .before .before .before .before .before .before .before .before) .settle .ensures) _ _
-      ((c .before .before .before .before .before .before .before .before .before .before) .settle .kept .1 .1 .1 .1 .1 .1 .0 ∙ b .counted) ((c .before .before .before .before .before .before .before .before .before .before) .settle .kept .1 .1 .1 .1 .1 .1 .1 .0 ∙ b .room) ((c .before .before .before .before .before .before .before .before .before .before) .settle .kept .1 .1 .1 .1 .1 .1 .1 .1 .0 ∙ b .queue) ((c .before .before .before .before .before .before .before .before .before .before .before .before .before .before .before .before .before .before .before .before .before .before .before .before .before .before .before .before .before .before .before) .pre .1 .1 .1) ((c .before .before .before .before .before .before .before .before .before .before .before .before .before .before .before .before .before) .clear .ensures)
+    ((c .before .before .before .before .before .before .before .before .before .before) .settle .kept .1 .1 .1 .1 .1 .1 .0 ∙ b .counted) ((c .before .before .before .before .before .before .before .before .before .before) .settle .kept .1 .1 .1 .1 .1 .1 .1 .0 ∙ b .room) ((c .before .before .before .before .before .before .before .before .before .before) .settle .kept .1 .1 .1 .1 .1 .1 .1 .1 .0 ∙ b .queue) ((c .before .before .before .before .before .before .before .before .before .before .before .before .before .before .before .before .before .before .before .before .before .before .before .before .before .before .before .before .before .before .before) .pre .1 .1 .1) ((c .before .before .before .before .before .before .before .before .before .before .before .before .before .before .before .before .before) .clear .ensures)
 
 -- src/lib.rt:42:5
 mul-share : tie.Need-mul-share
@@ -101,8 +101,8 @@ returns : tie.Need-returns
 returns c =
     let b = begun _ _ _ _ _ _ _ ((c .before .before .before .before .before .before .before .before .before .before .before .before .before .before .before .before .before .before .before .before .before .before .before .before .before .before .before .before .before .before .before .before .before .before .before .before) .pre .0 .source) ((c .before .before .before .before .before .before .before .before .before .before .before .before .before .before .before .before .before .before .before .before .before .before .before .before .before .before .before .before .before .before .before .before .before .before .before .before) .pre .0 .marked) ((c .before .before .before .before .before .before .before .before .before .before .before .before .before .before .before .before .before .before .before .before .before .before .before .before .before .before .before .before .before .before .before .before .before .before .before .before) .pre .1 .0) ((c .before .before .before .before .before .before .before .before .before .before .before .before .before .before .before .before .before .before .before .before .before .before .before .before .before .before .before .before .before .before .before .before .before .before .before .before) .pre .1 .1 .0) ((c .before .before .before .before .before .before .before .before .before .before .before .before .before .before .before .before .before .before .before .before .before .before .before .before .before .before .before .before .before .before) .wipe .ensures) ((c .before .before .before .before .before .before .before .before .before .before .before .before .before .before .before .before .before .before .before .before .before .before .before .before .before .before) .wipe2 .ensures) in
     filled _ _ _ _ _ _ _ _ _ _ _ _ ((c .before .before .before .before .before .before .before .before .before .before .before .before .before .before .before .before .before .before .before .before .before .before .before .before .before .before .before .before .before .before .before .before .before .before .before .before) .pre .0) ((c .before .before .before .before .before .before .before .before .before .before .before .before .before .before .before) .settle .ensures) ((c .before .before .before .before) .accumulate .last .1 .1 .1 .1 .1 .1 .0) _
-      ((c .before .before .before .before .before .before .before .before .before .before .before .before .before .before .before) .settle .kept .1 .1 .1 .1 .1 .0 ∙ b .timed) ((c .before .before .before .before .before .before .before .before .before .before .before .before .before .before .before) .settle .kept .1 .1 .1 .1 .1 .1 .0 ∙ b .counted) ((c .before .before .before .before) .accumulate .kept .1 .1 .1 .1 .1 .1 .0 ∙ (c .before .before .before .before .before .before .before .before .before .before .before .before .before .before .before .before .before .before .before .before .before .before) .clear .ensures .long ∙ (c .before .before .before .before .before .before .before .before .before .before .before .before .before .before .before .before .before .before .before .before .before .before .before .before .before .before .before .before .before .before .before .before .before .before .before .before) .pre .1 .1 .1) ((c .before .before .before .before .before .before .before .before .before .before .before .before .before .before .before) .settle .kept .1 .1 .1 .1 .1 .1 .1 .0 ∙ b .room) ((c .before .before .before .before .before .before .before .before .before .before .before .before .before .before .before) .settle .kept .1 .1 .1 .1 .1 .1 .1 .1 .0 ∙ b .queue)
-      ((c .before .before .before .before) .accumulate .ensures) (c .crowded .ensures)
+    ((c .before .before .before .before .before .before .before .before .before .before .before .before .before .before .before) .settle .kept .1 .1 .1 .1 .1 .0 ∙ b .timed) ((c .before .before .before .before .before .before .before .before .before .before .before .before .before .before .before) .settle .kept .1 .1 .1 .1 .1 .1 .0 ∙ b .counted) ((c .before .before .before .before) .accumulate .kept .1 .1 .1 .1 .1 .1 .0 ∙ (c .before .before .before .before .before .before .before .before .before .before .before .before .before .before .before .before .before .before .before .before .before .before) .clear .ensures .long ∙ (c .before .before .before .before .before .before .before .before .before .before .before .before .before .before .before .before .before .before .before .before .before .before .before .before .before .before .before .before .before .before .before .before .before .before .before .before) .pre .1 .1 .1) ((c .before .before .before .before .before .before .before .before .before .before .before .before .before .before .before) .settle .kept .1 .1 .1 .1 .1 .1 .1 .0 ∙ b .room) ((c .before .before .before .before .before .before .before .before .before .before .before .before .before .before .before) .settle .kept .1 .1 .1 .1 .1 .1 .1 .1 .0 ∙ b .queue)
+    ((c .before .before .before .before) .accumulate .ensures) (c .crowded .ensures)
 
 pub fill-spec : {M : Type 1} → statement M
 fill-spec =

@@ -15,9 +15,9 @@ returns : tie.Need-returns
 returns c =
     let a = (c .before .before .before .before) .args in
     let kept : (c .before .before .before) .if1 .kept ≡ cond (ltb (a .via) (a .old)) 0 (a .pred) =
-      ⊎-elim (λ w. rw (lt-ltb _ _ (w .0 .taken)) (w .1)) (λ w. rw (le-ltb _ _ (w .0 .left)) (w .1)) ((c .before .before .before) .if1 .came) in
+    ⊎-elim (λ w. rw (lt-ltb _ _ (w .0 .taken)) (w .1)) (λ w. rw (le-ltb _ _ (w .0 .left)) (w .1)) ((c .before .before .before) .if1 .came) in
     let more : (c .before .before) .if2 .more ≡ cond (leb (a .via) (a .old)) (a .bit) 0 =
-      ⊎-elim (λ w. rw (le-leb _ _ (w .0 .taken)) (w .1)) (λ w. rw (lt-leb _ _ (w .0 .left)) (w .1)) ((c .before .before) .if2 .came) in
+    ⊎-elim (λ w. rw (le-leb _ _ (w .0 .taken)) (w .1)) (λ w. rw (lt-leb _ _ (w .0 .left)) (w .1)) ((c .before .before) .if2 .came) in
     ap₂ bitOr kept more
 
 pub parents-spec : {M : Type 1} → statement M

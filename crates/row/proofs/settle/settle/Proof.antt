@@ -96,10 +96,10 @@ loop-less c = omega (arith, turn-room _ _ _ _ _ ((c .before .before .before .bef
 loop-again : tie.Need-loop-again Inv-loop μ-loop
 loop-again c =
     turn-goes _ _ _ _ _ ((c .before .before .before .before .before .before .before .before .before .before .before .before .before .before .before .before .before .before .before .before .before .before .before) .pre .0) _ _ _ _ _ _ _ _ ((c .before .before .before .before .before .before .before .before .before .before .before .before .before .before .before .before) .loop .inv) ((c .before .before .before .before .before .before .before .before .before .before .before .before .before) .nearest .ensures)
-      _ _ _ ((c .before .before .before .before .before .before .before .before .before .before .before .before) .only2 .ensures) refl refl _ _ _ _
-      ((c .before .before .before .before .before .before .before .before) .tally .ensures) ((c .before .before .before .before) .relax .ensures)
-      ((c .before .before .before .before) .relax .kept .1 .1 .1 .1 .0) ((c .before .before .before .before) .relax .kept .1 .1 .1 .1 .1 .0)
-      refl
+    _ _ _ ((c .before .before .before .before .before .before .before .before .before .before .before .before) .only2 .ensures) refl refl _ _ _ _
+    ((c .before .before .before .before .before .before .before .before) .tally .ensures) ((c .before .before .before .before) .relax .ensures)
+    ((c .before .before .before .before) .relax .kept .1 .1 .1 .1 .0) ((c .before .before .before .before) .relax .kept .1 .1 .1 .1 .1 .0)
+    refl
 
 -- src/settle.rt:12:1
 same-length : tie.Need-same-length Inv-loop μ-loop

@@ -1,0 +1,197 @@
+-- The answer of the check: its tests pass exactly for the row of the definitions. Assumes nothing.
+use Prim.Native.Nat.{ℕ, suc, _+_, _*_, _^_, _/_, _<_, _≤_, min}
+use mathlib.Core.Path.{_≡_, refl, sym, _∙_, ap, ap₂}
+use mathlib.Core.Logic.{_≢_}
+use mathlib.Core.Bool.{Bool, true, false, cond, _&&_, _||_, Bool·beq, and-eq-true-iff}
+use mathlib.Core.List.{List}
+use native.Mathlib.Nat.{mul-le-mul-right, div-le-self, le-trans}
+use native.Mathlib.Omega.{arith}
+use lib.Dec.{eqb, ltb, leb}
+use lib.ListN.{length, getD, replicate, getD-replicate, length-replicate}
+use borrow.Author.Tests.{eqb-true, eqb-false, eq-eqb, ne-eqb, leb-true, le-leb}
+use Rattle.routes.specs.Route.{Costs, mark, allTo, same, listTo, has, leastTime}
+use Rattle.routes.specs.Equations.{Within, outflow, cappedWays, openShare}
+use Rattle.routes.specs.Booleans.{bool-iff, both}
+use Rattle.routes.specs.Sums.{all-true, all-of, cond-true, cond-false, is-false}
+use Rattle.routes.specs.Lists.{same-refl, same-true}
+use Rattle.routes.specs.Rows.{getD-listTo, listTo-of}
+use Rattle.routes.specs.Bits.{split}
+use Rattle.routes.specs.Tight.{SameTight, same-tight, inflow-cong, outflow-cong}
+use Rattle.row.specs.Promise.{masked, Task, isRow}
+use Rattle.row.specs.Checked.{Checked, pushOf, pushed, checked-right, right-checked}
+use Rattle.row.specs.Scanning.{at, Parts, plain, agreed, Pushes, Pushing, Balance, Fair, Balanced}
+
+-- rows that agree below n pass together
+checked-cong : (W : Costs) (n s limit scale : ℕ) (d σ δ d′ σ′ δ′ : ℕ → ℕ) → s < n → ((t : ℕ) → t < n → (d t ≡ d′ t) × (σ t ≡ σ′ t) × (δ t ≡ δ′ t))
+    → Checked W n s limit scale d σ δ → Checked W n s limit scale d′ σ′ δ′
+checked-cong W n s limit scale d σ δ d′ σ′ δ′ i e C = record {
+  source = sym (e s i .0) ∙ C .source;
+  one = sym (e s i .1) ∙ C .one;
+  none = sym (e s i .2) ∙ C .none;
+  bounded = λ t l. omega (arith, e t l .0, C .bounded t l);
+  few = λ t l. omega (arith, e t l .1, C .few t l);
+  little = λ t l. omega (arith, e t l .2, C .little t l);
+  reached = λ t l. rw (← e t l .0, ← e t l .1) (C .reached t l);
+  relaxed = λ u t k l c m. omega (arith, e u k .0, e t l .0, C .relaxed u t k l c (λ h. m (sym (e u k .0) ∙ h)));
+  summed = λ t l h. sym (e t l .1) ∙ C .summed t l h ∙ ap (min (suc limit)) (inflow-cong W d W d′ n tights σ σ′ t l (λ u k _. e u k .1));
+  shared = λ v l h. sym (e v l .2) ∙ C .shared v l h ∙ ap₂ _*_ (e v l .1) (outflow-cong W d W d′ n tights (pushed s limit scale σ δ) (pushed s limit scale σ′ δ′) v l (λ w k _. ap₂ (λ x y. cond (eqb w s) 0 (pushOf limit scale x y)) (e w k .1) (e w k .2)));
+}
+  where
+    tights : SameTight W d W d′ n
+    tights = same-tight W d d′ n (λ t l. e t l .0)
+
+-- two tests that have the same result
+beq-of : {a b : Bool} → a ≡ b → Bool·beq a b ≡ true
+beq-of {a} {b} e = rw e (go b)
+  where
+    go : (b : Bool) → Bool·beq b b ≡ true
+    go true = refl
+    go false = refl
+
+of-beq : (a b : Bool) → Bool·beq a b ≡ true → a ≡ b
+of-beq true true e = refl
+of-beq true false e = sym e
+of-beq false true e = e
+of-beq false false e = refl
+
+-- nobody hands back more than the scale and his share
+push-le : (limit scale w x : ℕ) → pushOf limit scale w x ≤ scale + x
+unfolding pushOf
+push-le limit scale w x = go (eqb w 0 || ltb limit w)
+  where
+    go : (b : Bool) → cond b 0 ((scale + x) / w) ≤ scale + x
+    go true = omega arith
+    go false = div-le-self (scale + x) w
+
+pub parts-of : {n : ℕ} (time ways share : List ℕ) → (length time ≡ n) × (length ways ≡ n) × (length share ≡ n) → Parts n time ways share
+parts-of time ways share p = record { timed = p .0; counted = p .1; shared = p .2 }
+
+module _ (n s : ℕ) (cost out : List ℕ) (scale limit top : ℕ) (time ways share : List ℕ) (T : Task n s cost out scale limit top) (P : Parts n time ways share) where
+  abbrev W : Costs
+  W = masked n cost out
+
+  abbrev Passed : Type 0
+  Passed = Checked W n s limit scale (at time) (at ways) (at share)
+
+  abbrev verdict : Bool
+  verdict = isRow W n s limit scale time ways share
+
+  within : Within W n 131070
+  within u v k l = go (has (at out u) v)
+    where
+      go : (b : Bool) → cond b (at cost (u * n + v)) 0 ≤ 131070
+      go true = T .cheap u v k l
+      go false = omega arith
+
+  small : n * 131070 < mark
+  small = omega (arith, T .most)
+
+  passed-row : Passed → verdict ≡ true
+  unfolding isRow
+  passed-row C =
+      let right = checked-right W n s 131070 limit scale (T .source) within small (T .whole) (at time) (at ways) (at share) C in
+      and-eq-true-iff (same time _) _ .1 (
+        is time (P .timed) (λ t l. right t l .0),
+        and-eq-true-iff (same ways _) _ .1 (is ways (P .counted) (λ t l. right t l .1), is share (P .shared) (λ t l. right t l .2)),
+      )
+    where
+      is : (l : List ℕ) {f : ℕ → ℕ} → length l ≡ n → ((t : ℕ) → t < n → at l t ≡ f t) → same l (listTo n f) ≡ true
+      is l {f} e h = let is : l ≡ listTo n f = listTo-of n f 0 l e h in rw is (same-refl (listTo n f))
+
+  row-passed : verdict ≡ true → Passed
+  unfolding isRow
+  row-passed h =
+      let (a, rest) = and-eq-true-iff (same time _) _ .0 h in
+      let (b, c) = and-eq-true-iff (same ways _) _ .0 rest in
+      checked-cong W n s limit scale (leastTime W n s) (cappedWays W n s limit) (openShare W n s limit scale) (at time) (at ways) (at share) (T .source)
+      (λ t l. (entry time (leastTime W n s) a t l, entry ways (cappedWays W n s limit) b t l, entry share (openShare W n s limit scale) c t l))
+      (right-checked W n s 131070 limit scale (T .source) within small (T .whole))
+    where
+      entry : (l : List ℕ) (f : ℕ → ℕ) → same l (listTo n f) ≡ true → (t : ℕ) → t < n → f t ≡ at l t
+      entry l f e t k = sym (getD-listTo n f 0 t k) ∙ sym (ap (λ l. at l t) (same-true l (listTo n f) e))
+
+  -- a test that the row would pass has failed
+  pub refuted : (Passed → ⊥) → verdict ≡ false
+  refuted h = is-false verdict (λ e. h (row-passed e))
+
+  -- the row is within bounds
+  pub passed-plain : Passed → allTo n (plain (limit + 1) (n * scale) top time ways share) ≡ true
+  passed-plain C =
+      all-of n _ (λ t l.
+      and-eq-true-iff (leb (at ways t) (limit + 1) && leb (at share t) (n * scale)) _ .1 (
+        and-eq-true-iff (leb (at ways t) (limit + 1)) _ .1 (le-leb (at ways t) (limit + 1) (omega (arith, C .few t l)), le-leb _ _ (C .little t l)),
+        beq-of (ap (eqb (at time t)) (T .marked) ∙ C .reached t l),
+      ))
+
+  plain-at : allTo n (plain (limit + 1) (n * scale) top time ways share) ≡ true → (t : ℕ) → t < n
+      → (at ways t ≤ limit + 1) × (at share t ≤ n * scale) × (eqb (at time t) top ≡ eqb (at ways t) 0)
+  plain-at p t l =
+      let (a, e) = and-eq-true-iff (leb (at ways t) (limit + 1) && leb (at share t) (n * scale)) _ .0 (all-true n _ p t l) in
+      let (w, x) = and-eq-true-iff (leb (at ways t) (limit + 1)) _ .0 a in
+      (leb-true _ _ w, leb-true _ _ x, of-beq _ _ e)
+
+  -- within bounds, the divisions can be made
+  pub plain-pushes : {psi : List ℕ} → allTo n (plain (limit + 1) (n * scale) top time ways share) ≡ true → length psi ≡ 64
+      → Pushes n s limit scale ways share psi
+  plain-pushes p e = record {
+    inside = T .source;
+    most = T .most;
+    some = T .some;
+    counted = P .counted;
+    shared = P .shared;
+    room = e;
+    fits = λ t l. omega (arith, plain-at p t l .1, T .fine, mul-le-mul-right scale (T .most));
+  }
+
+  -- and what the sums ask holds
+  pub plain-balance : {psi : List ℕ} → allTo n (plain (limit + 1) (n * scale) top time ways share) ≡ true → Pushing n s limit scale ways share psi
+      → Balance n s (limit + 1) top cost out time ways share psi (replicate 64 0)
+  plain-balance {psi} p q = record {
+    most = T .most;
+    source = T .source;
+    square = T .square;
+    masks = T .masks;
+    linked = T .linked;
+    marked = T .marked;
+    parts = P;
+    room = q .room;
+    sums = length-replicate {A = ℕ} 64 0;
+    narrow = omega (arith, T .few);
+    few = λ t l. plain-at p t l .0;
+    light = λ t l. omega (arith, q .back t l, under (eqb t s) (push-le limit scale (at ways t) (at share t)), plain-at p t l .1, T .fine, mul-le-mul-right scale (T .most));
+    quiet = q .back s (T .source) ∙ cond-true 0 _ (eq-eqb s s refl);
+    empty = λ t l. getD-replicate {A = ℕ} 64 t 0 0 (omega (arith, T .most));
+  }
+    where
+      under : {x y : ℕ} (b : Bool) → x ≤ y → cond b 0 x ≤ y
+      under true h = omega arith
+      under false h = h
+
+  same-back : {psi : List ℕ} → Pushing n s limit scale ways share psi → (u : ℕ) → u < n
+      → outflow W n (at time) (at psi) u ≡ outflow W n (at time) (pushed s limit scale (at ways) (at share)) u
+  same-back {psi} q u l = outflow-cong W (at time) W (at time) n (λ _ _ _ _. refl) (at psi) (pushed s limit scale (at ways) (at share)) u l (λ w k _. q .back w k)
+
+  pub passed-fair : {psi : List ℕ} → Passed → Pushing n s limit scale ways share psi → (u : ℕ) → u < n → Fair n s cost out time ways share psi u
+  passed-fair {psi} C q u l = record {
+    relaxed = λ t k. C .relaxed u t l k;
+    shared = λ h. C .shared u l h ∙ ap (λ x. at ways u * x) (sym (same-back q u l));
+  }
+
+  -- where all other tests have passed, the ways decide
+  pub decided : {psi sum : List ℕ} → at time s ≡ 0 → at ways s ≡ 1 → at share s ≡ 0 → ((t : ℕ) → t < n → at time t ≤ mark)
+      → allTo n (plain (limit + 1) (n * scale) top time ways share) ≡ true → Pushing n s limit scale ways share psi
+      → Balanced n s (limit + 1) cost out time ways share psi sum true → allTo n (agreed s ways sum) ≡ verdict
+  decided {psi} {sum} d σ δ b p q r = bool-iff _ verdict
+      (λ h. passed-row (record {
+        source = d;
+        one = σ;
+        none = δ;
+        bounded = b;
+        few = λ t l. omega (arith, plain-at p t l .0);
+        little = λ t l. plain-at p t l .1;
+        reached = λ t l. sym (ap (eqb (at time t)) (T .marked)) ∙ plain-at p t l .2;
+        relaxed = λ u t k l. r .fair refl u k .relaxed t l;
+        summed = λ t l g. eqb-true (at ways t) (at sum t) (rw (ne-eqb t s g) at (all-true n (agreed s ways sum) h t l)) ∙ omega (arith, r .summed t l);
+        shared = λ v l g. r .fair refl v l .shared g ∙ ap (λ x. at ways v * x) (same-back q v l);
+      }))
+      (λ e. let C = row-passed e in all-of n (agreed s ways sum) (λ t l. split (eqb t s) (λ g. rw g) (λ g. rw g (eq-eqb (at ways t) (at sum t) (omega (arith, C .summed t l (eqb-false t s g), r .summed t l))))))

@@ -1,0 +1,71 @@
+// The links of a cost table as sets of stops, one for each stop that they leave.
+ghost use mathlib.Core.Path.{_≡_};
+ghost use mathlib.Core.Bool.{cond};
+ghost use Prim.Native.Nat.{_*_, _^_, _<_, _≤_};
+ghost use lib.ListN.{length};
+ghost use Rattle.row.specs.Promise.{AllLinks, UsefulLinks};
+ghost use Rattle.row.specs.Masks.{Mask, costly, exact};
+
+// The links of every stop: bit t of out[u] where the table has a cost from u to t.
+pub fn all_links(n: usize, cost: &[u32], out: &mut [u64; 64])
+    requires { ⌜ (n ≤ 64) × (length (now cost) ≡ n * n) ⌝ }
+    ensures { λ _. ⌜ AllLinks n (now (cost .entry)) (now (out .exit)) ⌝ }
+{
+    let mut masks = [0u64; 64];
+    for u in 0..64 {
+        masks[u] = links(n, u, cost);
+    }
+    *out = masks;
+}
+
+// The useful links of every stop: those whose cost is the time between their ends.
+pub fn useful_links(n: usize, cost: &[u32], time: &[u32], out: &mut [u64; 64])
+    requires { ⌜ (n ≤ 64) × (length (now cost) ≡ n * n) × (length (now time) ≡ n * n) ⌝ }
+    ensures { λ _. ⌜ UsefulLinks n (now (cost .entry)) (now (time .entry)) (now (out .exit)) ⌝ }
+{
+    let mut masks = [0u64; 64];
+    for u in 0..64 {
+        masks[u] = useful(n, u, cost, time);
+    }
+    *out = masks;
+}
+
+// The links of stop u, none where there is no such stop.
+fn links(n: usize, u: usize, cost: &[u32]) -> u64
+    requires { ⌜ (n ≤ 64) × (length (now cost) ≡ n * n) ⌝ }
+    ensures { λ r. ⌜ Mask n (costly n (now (cost .entry))) u r ⌝ }
+{
+    let mut set: u64 = 0;
+    if n <= u {
+        return set;
+    }
+    let base = u * n;
+    for t in 0..n {
+        set |= bit(0 < cost[base + t], t);
+    }
+    set
+}
+
+fn useful(n: usize, u: usize, cost: &[u32], time: &[u32]) -> u64
+    requires { ⌜ (n ≤ 64) × (length (now cost) ≡ n * n) × (length (now time) ≡ n * n) ⌝ }
+    ensures { λ r. ⌜ Mask n (exact n (now (cost .entry)) (now (time .entry))) u r ⌝ }
+{
+    let mut set: u64 = 0;
+    if n <= u {
+        return set;
+    }
+    let base = u * n;
+    for t in 0..n {
+        let c = cost[base + t];
+        set |= bit((0 < c) & (c == time[base + t]), t);
+    }
+    set
+}
+
+// The set of t alone, or none.
+fn bit(yes: bool, t: usize) -> u64
+    requires { ⌜ t < 64 ⌝ }
+    ensures { λ r. ⌜ r ≡ cond yes (2 ^ t) 0 ⌝ }
+{
+    (yes as u64) << (t as u64)
+}
