@@ -1,2 +1,11 @@
 // The hall: its type, its limits, and every call on its tables.
-mod limits;
+pub mod audit;
+mod costs;
+pub mod empty;
+pub mod limits;
+mod places;
+mod rows;
+mod scores;
+mod snapshot;
+mod sound;
+pub mod work;

@@ -1,0 +1,57 @@
+-- `scores::sum_scores` sums source by source.
+use borrow.Author.Needs.{needs}
+use Prim.Native.Nat.{_≤_, _-_}
+use mathlib.Core.Path.{_≡_, refl, _∙_}
+use native.Mathlib.Omega.{arith}
+use lib.ListN.{length}
+use Rattle.hall.specs.Promise.{Summed}
+use Rattle.hall.specs.Sums.{summed-none, summed-end}
+use Rattle.hall.proofs.scores.sum_scores.Statement.{statement}
+use Rattle.hall.proofs.scores.sum_scores.Tie as tie
+
+abbrev Inv-loop : tie.InvT-loop
+Inv-loop n share sum₀ s₀ sum s = (s ≤ n) × (length sum ≡ length sum₀) × Summed n s share sum
+
+abbrev μ-loop : tie.MeasureT-loop
+μ-loop n share sum₀ s₀ sum s = n - s
+
+clear-requires : tie.Need-clear-requires Inv-loop μ-loop
+clear-requires c κs = (c .before .before .before) .pre .1
+
+loop-holds : tie.Need-loop-holds Inv-loop μ-loop
+loop-holds c = (omega arith, refl, summed-none _ _ _ ((c .before .before) .clear .ensures))
+
+add-requires : tie.Need-add-requires Inv-loop μ-loop
+add-requires c κs =
+    let v = (c .before .before) .loop .inv in
+    ((c .before .before .before .before .before .before .before .before .before) .pre .0, ((c .before .loop-test .taken, omega (arith, v .1, (c .before .before .before .before .before) .clear .kept .1 .0, (c .before .before .before .before .before .before .before .before .before) .pre .1)), v .2))
+
+add-s : tie.Need-add-s Inv-loop μ-loop
+add-s c = search needs
+
+loop-less : tie.Need-loop-less Inv-loop μ-loop
+loop-less c = search needs
+
+loop-again : tie.Need-loop-again Inv-loop μ-loop
+loop-again c = (omega arith, (c .before .before) .add .kept .1 .1 .1 .0 ∙ (c .before .before .before .before .before) .loop .inv .1, (c .before .before) .add .ensures)
+
+same-length : tie.Need-same-length Inv-loop μ-loop
+same-length c = (c .before) .loop .inv .1 ∙ (c .before .before .before .before) .clear .kept .1 .0
+
+returns : tie.Need-returns Inv-loop μ-loop
+returns c = summed-end _ _ ((c .before) .loop .inv .0) (c .loop-test .left) ((c .before) .loop .inv .2)
+
+pub sum-scores-spec : {M : Type 1} → statement M
+sum-scores-spec =
+    tie.close
+    (tie.spec
+    Inv-loop
+    μ-loop
+    clear-requires
+    loop-holds
+    add-requires
+    add-s
+    loop-less
+    loop-again
+    same-length
+    returns)

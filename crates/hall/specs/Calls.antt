@@ -1,0 +1,107 @@
+-- From the tests of a call to what it promises. Assumes nothing.
+use Prim.Native.Nat.{ℕ, _*_, _^_, _<_, _≤_}
+use mathlib.Core.Path.{_≡_, refl, sym, _∙_}
+use mathlib.Core.Bool.{Bool, true, false, cond, not, _&&_, _||_, and-eq-true-iff}
+use mathlib.Core.List.{List, [], _++_}
+use lib.Dec.{eqb, leb}
+use lib.ListN.{length, drop}
+use borrow.Author.Tests.{eqb-true, leb-true, not-true, not-false}
+use Rattle.routes.specs.Route.{sumTo, setOf}
+use Rattle.routes.specs.Sums.{sumTo-zero}
+use Rattle.book.specs.Hall.{Tables, mostStops, mostWays, scale, upTo, filled, sized, right}
+use Rattle.book.specs.Filled.{right-true}
+use Rattle.book.specs.Call.{Call, audit, Rule, Answer, accepted, need, plain, rule, reply, refusal, after, answer}
+use Rattle.book.specs.declared.Refusal.{Refusal}
+use Rattle.book.specs.declared.Refusal.the-variants.{Accepted, BadSize, BadLength, BadTables}
+use Rattle.hall.specs.Promise.{says, Done}
+
+-- what the answer r of a test says of its definition x, where the code goes on only if it holds
+pub failed : {r x : Bool} → r ≡ x → not r ≡ true → x ≡ false
+failed {r} e f = sym e ∙ not-true r f
+
+pub held : {r x : Bool} → r ≡ x → not r ≡ false → x ≡ true
+held {r} e f = sym e ∙ not-false r f
+
+-- a number of stops
+pub stops : (n : ℕ) → upTo mostStops n ≡ true → (0 < n) × (n ≤ 64)
+stops n e = let (low, high) = and-eq-true-iff (leb 1 n) (leb n mostStops) .0 e in (leb-true 1 n low, leb-true n mostStops high)
+
+-- the lengths of tables that have them
+pub record Lengths (n : ℕ) (t : Tables) : Type 0 where
+  pub costs : length (t .cost) ≡ n * n
+  pub times : length (t .time) ≡ n * n
+  pub counts : length (t .ways) ≡ n * n
+  pub shares : length (t .share) ≡ n * n
+  pub scores : length (t .score) ≡ n
+
+pub lengths : (n : ℕ) (t : Tables) → sized n t ≡ true → Lengths n t
+unfolding sized
+lengths n t e =
+    let square : List ℕ → Bool = λ l. eqb (length l) (n * n) in
+    let (a, e₁) = and-eq-true-iff (square (t .cost)) _ .0 e in
+    let (b, e₂) = and-eq-true-iff (square (t .time)) _ .0 e₁ in
+    let (c, e₃) = and-eq-true-iff (square (t .ways)) _ .0 e₂ in
+    let (d, f) = and-eq-true-iff (square (t .share)) (eqb (length (t .score)) n) .0 e₃ in
+    record { costs = eqb-true _ _ a; times = eqb-true _ _ b; counts = eqb-true _ _ c; shares = eqb-true _ _ d; scores = eqb-true _ _ f }
+
+-- an answer that touches no source and writes no byte says its refusal alone
+untouched : (n : ℕ) (r : Refusal) (p : ℕ → Bool) → ((s : ℕ) → p s ≡ false) →
+    _≡_ {A = Answer} (record { refusal = r; touched = setOf n p; rows = sumTo n (λ s. cond (p s) 1 0); length = 0; buffer = [] }) (says r)
+unfolding setOf
+untouched n r p h = λ i. record {
+    refusal = r;
+    touched = sumTo-zero n {f = λ s. cond (p s) (2 ^ s) 0} (λ s l. rw (h s)) i;
+    rows = sumTo-zero n {f = λ s. cond (p s) 1 0} (λ s l. rw (h s)) i;
+    length = 0;
+    buffer = []
+  }
+
+-- so does a refused call, and a call that is plain
+reply-refused : (n : ℕ) (r : Refusal) (x : Rule) → accepted r ≡ false → x .buffer ≡ [] → reply n r x ≡ says r
+unfolding reply
+reply-refused n r x e b = rw (e, b) (untouched n r (λ s. false) (λ s. refl))
+
+reply-plain : (n : ℕ) (r : Refusal) (a : Bool) (tests : Refusal) (left : List ℕ) → reply n r (plain a tests left) ≡ says r
+unfolding reply
+reply-plain n r a tests left = go (accepted r)
+  where
+    go : (b : Bool) → _≡_ {A = Answer} (record { refusal = r; touched = setOf n (λ s. b && false); rows = sumTo n (λ s. cond (b && false) 1 0); length = length {A = ℕ} (cond b [] []); buffer = cond b [] [] ++ drop (length {A = ℕ} (cond b [] [])) [] }) (says r)
+    go true = untouched n r (λ s. false) (λ s. refl)
+    go false = untouched n r (λ s. false) (λ s. refl)
+
+module _ (c : Call) (t : Tables) where
+  -- the first two tests
+  pub bad-size : upTo mostStops (c .n) ≡ false → refusal c t ≡ BadSize
+  unfolding refusal
+  bad-size e = rw e
+
+  pub bad-length : upTo mostStops (c .n) ≡ true → sized (c .n) t ≡ false → refusal c t ≡ BadLength
+  unfolding refusal
+  bad-length e f = rw (e, f)
+
+  pub on-tables : upTo mostStops (c .n) ≡ true → sized (c .n) t ≡ true →
+      refusal c t ≡ need (not (rule (c .n) (c .ask) (t .cost) .audits) || right scale mostWays (c .n) t) BadTables (rule (c .n) (c .ask) (t .cost) .tests)
+  unfolding refusal
+  on-tables e f = rw (e, f)
+
+  -- a refused call leaves the tables
+  pub refused : (r : Refusal) → rule (c .n) (c .ask) (t .cost) .buffer ≡ [] → refusal c t ≡ r → accepted r ≡ false → Done c t t (says r)
+  unfolding after answer
+  refused r b e f = record { left = rw (e, f); answered = rw e (sym (reply-refused (c .n) r _ f b)) }
+
+-- an accepted call that is plain leaves the tables of the costs that it leaves
+module _ (c : Call) (t t′ : Tables) (a : Bool) (tests : Refusal) (left : List ℕ) where
+  pub passed : rule (c .n) (c .ask) (t .cost) ≡ plain a tests left → refusal c t ≡ Accepted → t′ ≡ filled scale (c .n) left → Done c t t′ (says Accepted)
+  unfolding after answer
+  passed e f g = record { left = rw (f, e) g; answered = rw (f, e) (sym (reply-plain (c .n) Accepted a tests left)) }
+
+-- the audit
+module _ (n : ℕ) (t : Tables) (some : upTo mostStops n ≡ true) (fits : sized n t ≡ true) where
+  pub audit-refused : right scale mostWays n t ≡ false → Done (record { n = n; ask = audit }) t t (says BadTables)
+  unfolding rule
+  audit-refused e = refused (record { n = n; ask = audit }) t BadTables refl (on-tables (record { n = n; ask = audit }) t some fits ∙ rw e) refl
+
+  pub audit-accepted : right scale mostWays n t ≡ true → Done (record { n = n; ask = audit }) t t (says Accepted)
+  unfolding rule
+  audit-accepted e =
+      passed (record { n = n; ask = audit }) t t true Accepted (t .cost) refl (on-tables (record { n = n; ask = audit }) t some fits ∙ rw e) (sym (right-true scale mostWays n t e .2))

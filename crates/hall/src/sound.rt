@@ -1,0 +1,87 @@
+// The audit without the tests of n and of the lengths.
+use super::costs;
+use super::limits::Hall;
+use super::places;
+use super::scores;
+use row::check::check;
+use row::masks::useful_links;
+ghost use mathlib.Core.Path.{_≡_};
+ghost use mathlib.Core.Bool.{true};
+ghost use Prim.Native.Nat.{_<_, _≤_};
+ghost use lib.ListN.{length};
+ghost use Rattle.row.specs.Promise.{masked, isRow};
+ghost use Rattle.book.specs.Hall.{mostWays, scale, sized, right};
+ghost use Rattle.hall.specs.Promise.{tables, part, Job, Square, Shares, noShortcut, rowsPass, scoresPass};
+
+// No link is cheaper than the time between its ends.
+fn no_shortcut(cost: &[u32], time: &[u32]) -> bool
+    requires { ⌜ length (now cost) ≡ length (now time) ⌝ }
+    ensures { λ r. ⌜ r ≡ noShortcut (now (cost .entry)) (now (time .entry)) ⌝ }
+{
+    let mut bad = false;
+    for i in 0..cost.len() {
+        bad |= (0 < cost[i]) & (cost[i] < time[i]);
+    }
+    !bad
+}
+
+// The three parts of source s are its row over the links of the masks.
+fn row_passes(n: usize, s: usize, cost: &[u32], out: &[u64; 64], time: &[u32], ways: &[u32], share: &[u64]) -> bool
+    requires { ⌜ Job n (now cost) (now out) ⌝ }
+    requires { ⌜ Square n (now time) (now ways) (now share) ⌝ }
+    requires { ⌜ s < n ⌝ }
+    ensures { λ r. ⌜ r ≡ isRow (masked n (now (cost .entry)) (now (out .entry))) n s mostWays scale (part n (now (time .entry)) s) (part n (now (ways .entry)) s) (part n (now (share .entry)) s) ⌝ }
+{
+    let at = places::start(n, s);
+    let end = at + n;
+    check(n, s, cost, out, Hall::SCALE, Hall::WAYS, Hall::MARK, &time[at..end], &ways[at..end], &share[at..end])
+}
+
+fn rows_pass(n: usize, cost: &[u32], out: &[u64; 64], time: &[u32], ways: &[u32], share: &[u64]) -> bool
+    requires { ⌜ Job n (now cost) (now out) ⌝ }
+    requires { ⌜ Square n (now time) (now ways) (now share) ⌝ }
+    ensures { λ r. ⌜ r ≡ rowsPass n (now (cost .entry)) (now (out .entry)) (now (time .entry)) (now (ways .entry)) (now (share .entry)) ⌝ }
+{
+    let mut good = true;
+    for s in 0..n {
+        good &= row_passes(n, s, cost, out, time, ways, share);
+    }
+    good
+}
+
+// Each score is the sum of its shares.
+fn scores_pass(n: usize, share: &[u64], score: &[u64]) -> bool
+    requires { ⌜ Shares n (now share) ⌝ }
+    requires { ⌜ length (now score) ≡ n ⌝ }
+    ensures { λ r. ⌜ r ≡ scoresPass n (now (share .entry)) (now (score .entry)) ⌝ }
+{
+    let mut sum = [0u64; 64];
+    scores::sum_scores(n, share, &mut sum);
+    let mut bad = false;
+    for v in 0..n {
+        bad |= score[v] != sum[v];
+    }
+    !bad
+}
+
+// The tables belong to their hall: valid costs without a crowded pair, and what a work out fills for them.
+pub fn sound(n: usize, cost: &[u32], time: &[u32], ways: &[u32], share: &[u64], score: &[u64]) -> bool
+    requires { ⌜ (0 < n) × (n ≤ 64) × (sized n (tables (now cost) (now time) (now ways) (now share) (now score)) ≡ true) ⌝ }
+    ensures { λ r. ⌜ r ≡ right scale mostWays n (tables (now (cost .entry)) (now (time .entry)) (now (ways .entry)) (now (share .entry)) (now (score .entry))) ⌝ }
+{
+    if !costs::valid(n, cost) {
+        return false;
+    }
+    if !no_shortcut(cost, time) {
+        return false;
+    }
+    let mut out = [0u64; 64];
+    useful_links(n, cost, time, &mut out);
+    if !rows_pass(n, cost, &out, time, ways, share) {
+        return false;
+    }
+    if !costs::within(Hall::WAYS, ways) {
+        return false;
+    }
+    scores_pass(n, share, score)
+}
