@@ -2,7 +2,7 @@
 use Prim.Native.Nat.{ℕ, zero, suc, _+_, _<_, _≤_}
 use mathlib.Core.Path.{_≡_, refl, sym, _∙_, ap}
 use mathlib.Core.Logic.{_≢_, ⊎-elim}
-use mathlib.Core.Bool.{Bool, true, false, cond, not, _&&_, and-eq-true-iff}
+use mathlib.Core.Bool.{Bool, true, false, cond, not, and-eq-true-iff}
 use mathlib.Core.List.{List}
 use native.Mathlib.Nat.{eq-or-lt-of-le}
 use native.Mathlib.Omega.{arith}
@@ -18,9 +18,9 @@ use Rattle.book.specs.Call.{Call, edit, accepted, edited, rule, reply, r
 use Rattle.book.specs.Book.{Book, Edited, changed}
 use Rattle.book.specs.declared.Kind.{Kind}
 use Rattle.book.specs.declared.Refusal.the-variants.{Accepted}
-use Rattle.book.specs.TableLaws.{entry-table, valid-costs}
+use Rattle.book.specs.TableLaws.{entry-table, only-set, valid-costs}
 use Rattle.book.specs.Passed.{newCost, Permitted, permitted}
-use Rattle.book.specs.Steps.{Held, entry-edited, held-edited, tablesOf, accepted-book, refusal-book}
+use Rattle.book.specs.Steps.{Held, edited-set, entry-edited, held-edited, tablesOf, accepted-book, refusal-book}
 
 -- a sum whose members are 0 from n on
 sumTo-beyond : (m n : ℕ) {f : ℕ → ℕ} → n ≤ m → ((i : ℕ) → n ≤ i → f i ≡ 0) → sumTo m f ≡ sumTo n f
@@ -65,12 +65,8 @@ module _ (n : ℕ) (k : Kind) (u v c : ℕ) (cost : List ℕ) (h : Held n cost) 
   differs e = p .differs (e ∙ entry-edited n k u v c cost h p u v (p .to) ∙ rw (eq-eqb u u refl, eq-eqb v v refl))
 
   others : (s t : ℕ) → s < n → t < n → W s t ≢ W′ s t → (s ≡ u) × (t ≡ v)
-  others s t hs ht ne = go (eqb u s) (eqb v t) refl refl (entry-edited n k u v c cost h p s t ht)
-    where
-      go : (a b : Bool) → eqb u s ≡ a → eqb v t ≡ b → W′ s t ≡ cond (a && b) (newCost k c) (W s t) → (s ≡ u) × (t ≡ v)
-      go true true e f g = (sym (eqb-true u s e), sym (eqb-true v t f))
-      go true false e f g = absurd (ne (sym g))
-      go false b e f g = absurd (ne (sym g))
+  others s t hs ht ne =
+      only-set n cost u v (newCost k c) s t (h .square) (p .from) (p .to) ht (λ e. ne (e ∙ ap (λ l. entry n l s t) (sym (edited-set k n u v c cost))))
 
   -- the edit touches exactly the sources with a row that does not stay
   row-touched : (s : ℕ) → s < n → touches s ≡ not (allTo n (stays s))

@@ -45,7 +45,7 @@ pub record Permitted (n : ℕ) (k : Kind) (u v c : ℕ) (cost : List ℕ) : Type
   pub differs : entry n cost u v ≢ newCost k c
   pub few : uncrowded mostWays n (edited k n u v c cost) ≡ true
 
-cost-tests : (k : Kind) (c present : ℕ) (next : Refusal) → accepted (costTests k c present next) ≡ true →
+pub cost-tests : (k : Kind) (c present : ℕ) (next : Refusal) → accepted (costTests k c present next) ≡ true →
     (newCost k c ≤ largestCost) × (present ≢ newCost k c) × (accepted next ≡ true)
 cost-tests Insert c present next e =
     let (bounds, e₁) = need-true (upTo largestCost c) BadCost _ refl e in

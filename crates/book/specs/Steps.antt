@@ -1,6 +1,6 @@
 -- One call on the tables of a book: it is refused, leaves and answers what the book says. Assumes nothing.
-use Prim.Native.Nat.{ℕ, _+_, _*_, _<_, _≤_}
-use mathlib.Core.Path.{_≡_, refl, sym, _∙_, ap, subst}
+use Prim.Native.Nat.{ℕ, _+_, _*_, _<_}
+use mathlib.Core.Path.{_≡_, refl, _∙_, ap, subst}
 use mathlib.Core.Logic.{_≢_}
 use mathlib.Core.Bool.{Bool, true, false, cond, not, _&&_, _||_, or-true}
 use mathlib.Core.List.{List}
@@ -15,7 +15,7 @@ use Rattle.book.specs.declared.Kind.{Kind}
 use Rattle.book.specs.declared.Kind.the-variants.{Insert, Cheapen, Delete}
 use Rattle.book.specs.declared.Refusal.{Refusal}
 use Rattle.book.specs.declared.Refusal.the-variants.{Accepted, BadSize, BadLength, BadTables, BadStop, BadCost, LinkPresent, LinkAbsent, NotCheaper, BadImage, ShortBuffer, TooManyWays}
-use Rattle.book.specs.TableLaws.{entry-set, Valid, valid-costs, costs-valid}
+use Rattle.book.specs.TableLaws.{entry-set, valid-set}
 use Rattle.book.specs.ImageLaws.{length-read, read-valid}
 use Rattle.book.specs.NoLinks.{valid-none, uncrowded-none}
 use Rattle.book.specs.Filled.{sized-filled, right-filled}
@@ -45,7 +45,7 @@ pub held-worked : (n : ℕ) (c : List ℕ) (t : Tables) → Held n c → sized n
 unfolding refusal rule
 held-worked n c t h s = rw (h .size, s, h .square, eq-eqb (n * n) (n * n) refl, h .valid, h .few)
 
-edited-set : (k : Kind) (n u v c : ℕ) (cost : List ℕ) → edited k n u v c cost ≡ set cost (u * n + v) (newCost k c)
+pub edited-set : (k : Kind) (n u v c : ℕ) (cost : List ℕ) → edited k n u v c cost ≡ set cost (u * n + v) (newCost k c)
 edited-set Insert n u v c cost = refl
 edited-set Cheapen n u v c cost = refl
 edited-set Delete n u v c cost = refl
@@ -56,28 +56,12 @@ module _ (n : ℕ) (k : Kind) (u v c : ℕ) (cost : List ℕ) (h : Held n cost) 
   entry-edited s t ht = rw (edited-set k n u v c cost) (entry-set n cost u v (newCost k c) s t (h .square) (p .from) (p .to) ht)
 
   pub held-edited : Held n (edited k n u v c cost)
-  held-edited =
-      let square : length (edited k n u v c cost) ≡ n * n = rw (edited-set k n u v c cost) (length-set cost _ _ ∙ h .square) in
-      record { size = h .size; square = square; valid = costs-valid n (edited k n u v c cost) valid; few = p .few }
-    where
-      old : Valid n (entry n cost)
-      old = valid-costs n cost (h .valid)
-
-      most : (a : Bool) (s t : ℕ) → s < n → t < n → cond a (newCost k c) (entry n cost s t) ≤ largestCost
-      most true s t hs ht = p .fits
-      most false s t hs ht = old .most s t hs ht
-
-      own : (s : ℕ) (a b : Bool) → eqb u s ≡ a → eqb v s ≡ b → s < n → cond (a && b) (newCost k c) (entry n cost s s) ≡ 0
-      own s true true e f hs = absurd (p .apart (eqb-true u s e ∙ sym (eqb-true v s f)))
-      own s true false e f hs = old .own s hs
-      own s false b e f hs = old .own s hs
-
-      valid : Valid n (entry n (edited k n u v c cost))
-      valid =
-          record {
-            most = λ s t hs ht. rw (entry-edited s t ht) (most (eqb u s && eqb v t) s t hs ht);
-            own = λ s hs. rw (entry-edited s s hs) (own s (eqb u s) (eqb v s) refl refl hs);
-          }
+  held-edited = record {
+    size = h .size;
+    square = rw (edited-set k n u v c cost) (length-set cost _ _ ∙ h .square);
+    valid = rw (edited-set k n u v c cost) (valid-set n cost u v (newCost k c) (h .square) (p .from) (p .to) (p .apart) (p .fits) (h .valid));
+    few = p .few;
+  }
 
 -- a call that passes its tests leaves costs of which it holds again
 rule-held : (n : ℕ) (ask : Ask) (cost : List ℕ) → Held n cost → accepted (rule n ask cost .tests) ≡ true → Held n (rule n ask cost .left)

@@ -1,6 +1,7 @@
 -- Laws of the square tables of a hall: their length, their entries, one entry set, and valid costs. Assumes nothing.
 use Prim.Native.Nat.{ℕ, zero, suc, _+_, _*_, _/_, _%_, _<_, _≤_}
 use mathlib.Core.Path.{_≡_, refl, sym, _∙_, ap, ap₂}
+use mathlib.Core.Logic.{_≢_}
 use mathlib.Core.Bool.{Bool, true, false, cond, _&&_}
 use mathlib.Core.List.{List, _++_}
 use native.Mathlib.Nat.{zero-mul, suc-mul, not-suc-le-zero, mod-lt, div-add-mod', div-lt-iff-lt-mul}
@@ -81,6 +82,16 @@ entry-set n l u v x s t e a b c = go (eqb u s) refl (eqb v t) refl
     go true f false g = other (λ h. eqb-false v t g (sym (same-place n c b h .1)))
     go false f q g = other (λ h. eqb-false u s f (sym (same-place n c b h .0)))
 
+-- no other entry differs
+pub only-set : (n : ℕ) (l : List ℕ) (u v x s t : ℕ) → length l ≡ n * n → u < n → v < n → t < n →
+    entry n l s t ≢ entry n (set l (u * n + v) x) s t → (s ≡ u) × (t ≡ v)
+only-set n l u v x s t e a b c ne = go (eqb u s) refl (eqb v t) refl (entry-set n l u v x s t e a b c)
+  where
+    go : (p : Bool) → eqb u s ≡ p → (q : Bool) → eqb v t ≡ q → entry n (set l (u * n + v) x) s t ≡ cond (p && q) x (entry n l s t) → (s ≡ u) × (t ≡ v)
+    go true f true g h = (sym (eqb-true u s f), sym (eqb-true v t g))
+    go true f false g h = absurd (ne (sym h))
+    go false f q g h = absurd (ne (sym h))
+
 -- a table after one entry is set
 pub table-set : (n : ℕ) (f : ℕ → ℕ → ℕ) (u v x : ℕ) → u < n → v < n →
     set (table n f) (u * n + v) x ≡ table n (λ s t. cond (eqb u s && eqb v t) x (f s t))
@@ -120,3 +131,24 @@ costs-valid n cost h = all-of n _ (λ u a. all-of n _ (λ v b. le-leb _ _ (go u 
     go : (u v : ℕ) → u < n → v < n → (b : Bool) → eqb u v ≡ b → entry n cost u v ≤ cond b 0 largestCost
     go u v a b true e = omega (arith, h .own u a, ap (entry n cost u) (eqb-true u v e))
     go u v a b false e = h .most u v a b
+
+-- costs stay valid where the link between two stops gets a cost, or none
+pub valid-set : (n : ℕ) (cost : List ℕ) (u v x : ℕ) → length cost ≡ n * n → u < n → v < n → u ≢ v → x ≤ largestCost → validCosts n cost ≡ true →
+    validCosts n (set cost (u * n + v) x) ≡ true
+valid-set n cost u v x e a b apart fits h =
+    costs-valid n (set cost (u * n + v) x) (record {
+      most = λ s t k l. rw (entry-set n cost u v x s t e a b l) (most (eqb u s && eqb v t) s t k l);
+      own = λ s k. rw (entry-set n cost u v x s s e a b k) (own s (eqb u s) refl (eqb v s) refl k);
+    })
+  where
+    old : Valid n (entry n cost)
+    old = valid-costs n cost h
+
+    most : (p : Bool) (s t : ℕ) → s < n → t < n → cond p x (entry n cost s t) ≤ largestCost
+    most true s t k l = fits
+    most false s t k l = old .most s t k l
+
+    own : (s : ℕ) (p : Bool) → eqb u s ≡ p → (q : Bool) → eqb v s ≡ q → s < n → cond (p && q) x (entry n cost s s) ≡ 0
+    own s true f true g k = absurd (apart (eqb-true u s f ∙ sym (eqb-true v s g)))
+    own s true f false g k = old .own s k
+    own s false f q g k = old .own s k

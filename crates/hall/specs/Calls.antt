@@ -49,12 +49,12 @@ untouched : (n : ℕ) (r : Refusal) (p : ℕ → Bool) → ((s : ℕ) → p s �
     _≡_ {A = Answer} (record { refusal = r; touched = setOf n p; rows = sumTo n (λ s. cond (p s) 1 0); length = 0; buffer = [] }) (says r)
 unfolding setOf
 untouched n r p h = λ i. record {
-    refusal = r;
-    touched = sumTo-zero n {f = λ s. cond (p s) (2 ^ s) 0} (λ s l. rw (h s)) i;
-    rows = sumTo-zero n {f = λ s. cond (p s) 1 0} (λ s l. rw (h s)) i;
-    length = 0;
-    buffer = []
-  }
+  refusal = r;
+  touched = sumTo-zero n {f = λ s. cond (p s) (2 ^ s) 0} (λ s l. rw (h s)) i;
+  rows = sumTo-zero n {f = λ s. cond (p s) 1 0} (λ s l. rw (h s)) i;
+  length = 0;
+  buffer = [];
+}
 
 -- so does a refused call, and a call that is plain
 reply-refused : (n : ℕ) (r : Refusal) (x : Rule) → accepted r ≡ false → x .buffer ≡ [] → reply n r x ≡ says r

@@ -62,7 +62,7 @@ valid-tests n cost e =
     parts .1 (all-of n (λ u. allTo n (high u)) (λ u k. all-of n (high u) (λ t l. le-leb (entry n cost u t) largestCost (v .most u t k l))), all-of n own (λ u k. eq-eqb (entry n cost u u) 0 (v .own u k))))
     λ h. costs-valid n cost (record {
       most = λ u t k l. leb-true (entry n cost u t) largestCost (all-true n (high u) (all-true n (λ u. allTo n (high u)) (parts .0 h .0) u k) t l);
-      own = λ u k. eqb-true (entry n cost u u) 0 (all-true n own (parts .0 h .1) u k)
+      own = λ u k. eqb-true (entry n cost u u) 0 (all-true n own (parts .0 h .1) u k);
     }))
 
 -- the diagonal, place by place
@@ -72,9 +72,9 @@ module _ (n x : ℕ) where
 
   pub diagonal-more : (k : ℕ) (old now : List ℕ) → k < n → length old ≡ n * n → Diagonal n k x old now → Diagonal n (k + 1) x old (set now (k * n + k) x)
   diagonal-more k old now h e d = record {
-      long = length-set now (k * n + k) x ∙ d .long;
-      at = λ s t hs ht. entry-set n now k k x s t (d .long ∙ e) h h ht ∙ rw (d .at s t hs ht) (go s t (eqb k s) refl)
-    }
+    long = length-set now (k * n + k) x ∙ d .long;
+    at = λ s t hs ht. entry-set n now k k x s t (d .long ∙ e) h h ht ∙ rw (d .at s t hs ht) (go s t (eqb k s) refl);
+  }
     where
       at-k : (a : Bool) (o : ℕ) → cond a x (cond (a && false) x o) ≡ cond (a && true) x o
       at-k true o = refl

@@ -30,11 +30,11 @@ module _ (W : Costs) (n s : ℕ) (none : (u v : ℕ) → u < n → v < n → W u
 
   alone : Times W n s (λ t. cond (eqb s t) 0 mark)
   alone = record {
-      source = cond-true 0 mark (eq-eqb s s refl);
-      bounded = λ t l. split (eqb s t) (λ e. rw e (omega arith)) (λ e. rw e (omega arith));
-      relaxed = λ u t k l e. absurd (omega (arith, ltb-true 0 (W u t) e, none u t k l));
-      supported = λ t l h e. absurd (e (cond-false 0 mark (ne-eqb s t (λ p. h (sym p)))))
-    }
+    source = cond-true 0 mark (eq-eqb s s refl);
+    bounded = λ t l. split (eqb s t) (λ e. rw e (omega arith)) (λ e. rw e (omega arith));
+    relaxed = λ u t k l e. absurd (omega (arith, ltb-true 0 (W u t) e, none u t k l));
+    supported = λ t l h e. absurd (e (cond-false 0 mark (ne-eqb s t (λ p. h (sym p)))));
+  }
 
   -- a stop is reached from itself alone, in one way
   pub alone-time : (t : ℕ) → t < n → leastTime W n s t ≡ cond (eqb s t) 0 mark
@@ -48,8 +48,8 @@ module _ (W : Costs) (n s : ℕ) (none : (u v : ℕ) → u < n → v < n → W u
     where
       zero-of : {x : ℕ} → (0 < x → ⊥) → x ≡ 0
       zero-of h = omega (arith, h)
+      -- no stop has a share
 
-    -- no stop has a share
   pub alone-share : (L v : ℕ) → v < n → share W n s L v ≡ 0
   unfolding share portion
   alone-share L v l =
@@ -85,12 +85,12 @@ module _ (n : ℕ) where
       Diagonal n n 1 counts counts′ → scores ≡ replicate n 0 → tables costs times′ counts′ shares scores ≡ filled scale n (replicate (n * n) 0)
   unfolding filled
   made {costs} {times} {counts} {shares} {times′} {counts′} {scores} b d e z = λ i. record {
-      cost = b .costs i;
-      time = table-of n (leastTime bare n) times′ (length-diagonal n 0 mark times times′ (b .times) d) (λ s t k l. entry-diagonal n 0 mark times times′ (b .times) d s t k l ∙ sym (alone-time bare n s none k t l)) i;
-      ways = table-of n (ways bare n) counts′ (length-diagonal n 1 0 counts counts′ (b .counts) e) (λ s t k l. entry-diagonal n 1 0 counts counts′ (b .counts) e s t k l ∙ sym (alone-ways bare n s none k t l)) i;
-      share = (b .shares ∙ table-of n (λ s. share bare n s scale) (replicate (n * n) 0) (length-replicate (n * n) 0) (λ s t k l. none s t k l ∙ sym (alone-share bare n s none k scale t l))) i;
-      score = (z ∙ listTo-of n (score bare n scale) 0 (replicate n 0) (length-replicate n 0) (λ v l. getD-replicate n v 0 0 l ∙ sym (bare-score v l))) i
-    }
+    cost = b .costs i;
+    time = table-of n (leastTime bare n) times′ (length-diagonal n 0 mark times times′ (b .times) d) (λ s t k l. entry-diagonal n 0 mark times times′ (b .times) d s t k l ∙ sym (alone-time bare n s none k t l)) i;
+    ways = table-of n (ways bare n) counts′ (length-diagonal n 1 0 counts counts′ (b .counts) e) (λ s t k l. entry-diagonal n 1 0 counts counts′ (b .counts) e s t k l ∙ sym (alone-ways bare n s none k t l)) i;
+    share = (b .shares ∙ table-of n (λ s. share bare n s scale) (replicate (n * n) 0) (length-replicate (n * n) 0) (λ s t k l. none s t k l ∙ sym (alone-share bare n s none k scale t l))) i;
+    score = (z ∙ listTo-of n (score bare n scale) 0 (replicate n 0) (length-replicate n 0) (λ v l. getD-replicate n v 0 0 l ∙ sym (bare-score v l))) i;
+  }
 
   pub emptied : {cells k : ℕ} {costs times counts shares times′ counts′ scores : List ℕ} → cells ≡ n * n → k ≡ n → Blank cells costs times counts shares →
       Diagonal n n 0 times times′ → Diagonal n n 1 counts counts′ → scores ≡ replicate k 0 → tables costs times′ counts′ shares scores ≡ filled scale n (replicate (n * n) 0)

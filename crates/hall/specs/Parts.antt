@@ -54,18 +54,18 @@ module _ (n : ℕ) (l : List ℕ) where
         let m : ℕ = k - (s * n + n) in
         let rest : List ℕ = drop n (drop (s * n) l) in
         let cut : drop (s * n + n) (back (s * n) n l p) ≡ rest =
-            rw (← append-assoc (take (s * n) l) p rest) (drop-at (take (s * n) l ++ p) rest (s * n + n) (rw (length-append, front, wide))) in
+        rw (← append-assoc (take (s * n) l) p rest) (drop-at (take (s * n) l ++ p) rest (s * n + n) (rw (length-append, front, wide))) in
         let split : (s * n + n) + m ≡ k = omega arith in
         rw (← split, ← drop-drop m (s * n + n) (back (s * n) n l p), cut, drop-drop n (s * n) l) (drop-drop m (s * n + n) l)
 
     pub part-other : (u : ℕ) → u ≢ s → part n (back (s * n) n l p) u ≡ part n l u
     part-other u h = elim (decLt u s) [
-        yes b ↦
+      | yes b ↦
           let inside : u * n + n ≤ length (take (s * n) l) = omega (arith, front, row-gap n b) in
           part-front n (take (s * n) l) _ u inside ∙ sym (part-front n (take (s * n) l) (drop (s * n) l) u inside) ∙
           ap (λ x. part n x u) (take-append-drop (s * n) l)
       | no b ↦ ap (take n) (behind (u * n) (row-gap n (omega arith)))
-      ]
+    ]
 
 -- a table whose parts are the rows of f is the table of f
 pub table-of-parts : (n : ℕ) (f : ℕ → ℕ → ℕ) (l : List ℕ) → length l ≡ n * n → ((s : ℕ) → s < n → part n l s ≡ listTo n (f s)) → l ≡ table n f

@@ -54,12 +54,12 @@ pub renewed : (W : Costs) (n s a : ℕ) (time ways share time′ ways′ share�
     Filled W n s mostWays scale time′ ways′ share′ crowded →
     Renewed W n s time ways share (back a (a + n - a) time time′) (back a (a + n - a) ways ways′) (back a (a + n - a) share share′) crowded
 renewed W n s a time ways share time′ ways′ share′ crowded at q f = record {
-    row =
-        λ i. record { time = here n s a at time time′ _ (q .times) (f .row .times) i; ways = here n s a at ways ways′ _ (q .counts) (f .row .counts) i; share = here n s a at share share′ _ (q .shares) (f .row .shares) i };
-    others =
-        λ u d i. record { time = away n s a at time time′ _ (q .times) (f .row .times) u d i; ways = away n s a at ways ways′ _ (q .counts) (f .row .counts) u d i; share = away n s a at share share′ _ (q .shares) (f .row .shares) u d i };
-    over = f .over
-  }
+  row =
+      λ i. record { time = here n s a at time time′ _ (q .times) (f .row .times) i; ways = here n s a at ways ways′ _ (q .counts) (f .row .counts) i; share = here n s a at share share′ _ (q .shares) (f .row .shares) i };
+  others =
+      λ u d i. record { time = away n s a at time time′ _ (q .times) (f .row .times) u d i; ways = away n s a at ways ways′ _ (q .counts) (f .row .counts) u d i; share = away n s a at share share′ _ (q .shares) (f .row .shares) u d i };
+  over = f .over;
+}
 
 -- a test of the members of a set that are not left: the next one, and those before
 module _ (n set : ℕ) (f : ℕ → Bool) {a t b : ℕ} (p : Popped a t b) (member : has set t ≡ true) (below : t < n) where
@@ -114,11 +114,11 @@ module _ (W : Costs) (n set : ℕ) (time₀ ways₀ share₀ : List ℕ) where
     pub redoing-goes : {time′ ways′ share′ : List ℕ} {c : Bool} → Renewed W n (trailingZeros 64 left) time ways share time′ ways′ share′ c → Square n time′ ways′ share′ →
         Redoing W n set (bitAnd left (left - 1)) time₀ ways₀ share₀ time′ ways′ share′ (over || c)
     redoing-goes {time′} {ways′} {share′} {c} d q = record {
-        lengths = q;
-        rows = rewriting-goes set (rowOf W n) (parts n time₀ ways₀ share₀) (r .rows) lowest (d .row) (d .others);
-        word = omega (arith, r .word, next-less);
-        crowded = rw (r .crowded, d .over, more) (neither (allTo n (λ s. not (has set s) || (has left s || free W n s))))
-      }
+      lengths = q;
+      rows = rewriting-goes set (rowOf W n) (parts n time₀ ways₀ share₀) (r .rows) lowest (d .row) (d .others);
+      word = omega (arith, r .word, next-less);
+      crowded = rw (r .crowded, d .over, more) (neither (allTo n (λ s. not (has set s) || (has left s || free W n s))));
+    }
       where
         neither : (b : Bool) → (not b || not (free W n (trailingZeros 64 left))) ≡ not (b && free W n (trailingZeros 64 left))
         neither true = refl

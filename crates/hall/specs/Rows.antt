@@ -24,18 +24,18 @@ use Rattle.hall.specs.Promise.{Job, Parts, rowOf, free}
 -- a source's task
 pub task : {n : ℕ} {cost out : List ℕ} → Job n cost out → (s : ℕ) → s < n → Task n s cost out scale mostWays mark
 task j s l = record {
-    source = l;
-    most = j .most;
-    square = j .square;
-    masks = j .masks;
-    cheap = λ u t h k. omega (arith, j .cheap u t h k);
-    linked = j .linked;
-    marked = refl;
-    some = omega arith;
-    few = omega arith;
-    fine = omega arith;
-    whole = whole
-  }
+  source = l;
+  most = j .most;
+  square = j .square;
+  masks = j .masks;
+  cheap = λ u t h k. omega (arith, j .cheap u t h k);
+  linked = j .linked;
+  marked = refl;
+  some = omega arith;
+  few = omega arith;
+  fine = omega arith;
+  whole = whole;
+}
 
 -- every route over the links of a job is quicker than the mark
 pub job-flows : {n : ℕ} {cost out : List ℕ} → Job n cost out → (s : ℕ) → s < n → Flows (masked n cost out) n s
@@ -51,7 +51,7 @@ module _ (n : ℕ) (cost : List ℕ) (most : n ≤ 64) (square : length cost ≡
   cheap = valid-costs n cost valid .most
 
   -- valid costs with all links, or with the useful ones, are a job
-  job : (out : List ℕ) (p : ℕ → ℕ → Bool) → length out ≡ 64 →
+  pub job : (out : List ℕ) (p : ℕ → ℕ → Bool) → length out ≡ 64 →
       ((u t : ℕ) → has (getD out u 0) t ≡ (ltb u n && (ltb t n && (ltb 0 (entry n cost u t) && p u t)))) → Job n cost out
   job out p long bit = record { most = most; square = square; masks = long; cheap = cheap; linked = linked }
     where
@@ -90,10 +90,10 @@ listTo-cong n {f} {g} h = listTo-of n g 0 (listTo n f) (length-listTo n f) (λ i
 -- rows that are the same by both costs
 pub same-rowOf : (W W′ : Costs) (n s : ℕ) → SameRow W W′ n s → rowOf W n s ≡ rowOf W′ n s
 same-rowOf W W′ n s r = λ i. record {
-    time = listTo-cong n (r .times) i;
-    ways = listTo-cong n (λ t l. ap (min (suc mostWays)) (r .counts t l)) i;
-    share = listTo-cong n (r .openShares mostWays scale) i
-  }
+  time = listTo-cong n (r .times) i;
+  ways = listTo-cong n (λ t l. ap (min (suc mostWays)) (r .counts t l)) i;
+  share = listTo-cong n (r .openShares mostWays scale) i;
+}
 
 pub same-free : (W W′ : Costs) (n s : ℕ) → SameRow W W′ n s → free W n s ≡ free W′ n s
 same-free W W′ n s r = all-cong n (λ t l. ap (λ x. leb x mostWays) (r .counts t l))

@@ -139,9 +139,9 @@ module _ (n : ℕ) (cost time counts shares scores : List ℕ) (most : n ≤ 64)
         where
           whole-of : scoresPass n shares scores ≡ true → t ≡ filled scale n cost
           whole-of z i = record {
-              cost = cost;
-              time = passed-worked .times i;
-              ways = passed-worked .counts i;
-              share = passed-worked .shares i;
-              score = worked-scores n cost shares (passed-worked .shares) scores (long .scores) (record { at = λ v l. eqb-true _ _ (all-true n (λ v. eqb (getD scores v 0) (sumTo n (λ s. entry n shares s v))) z v l) }) i
-            }
+            cost = cost;
+            time = passed-worked .times i;
+            ways = passed-worked .counts i;
+            share = passed-worked .shares i;
+            score = worked-scores n cost shares (passed-worked .shares) scores (long .scores) (record { at = λ v l. eqb-true _ _ (all-true n (λ v. eqb (getD scores v 0) (sumTo n (λ s. entry n shares s v))) z v l) }) i;
+          }

@@ -19,13 +19,13 @@ module _ (f : ℕ → ℕ) where
 
   pub stored-more : (k x : ℕ) (old now : List ℕ) → k < length old → x ≡ f k → Stored f k old now → Stored f (k + 1) old (set now k x)
   stored-more k x old now l e s = record {
-      long = length-set now k x ∙ s .long;
-      done = λ i h. elim (ℕ-discrete i k) [
-          yes p ↦ ap (λ j. getD (set now k x) j 0) p ∙ getD-set-same now k x 0 (omega (arith, s .long)) ∙ e ∙ ap f (sym p)
-        | no p ↦ getD-set-other now k i x 0 p ∙ s .done i (omega arith)
-        ];
-      rest = λ i h. getD-set-other now k i x 0 (omega arith) ∙ s .rest i (omega arith)
-    }
+    long = length-set now k x ∙ s .long;
+    done = λ i h. elim (ℕ-discrete i k) [
+      | yes p ↦ ap (λ j. getD (set now k x) j 0) p ∙ getD-set-same now k x 0 (omega (arith, s .long)) ∙ e ∙ ap f (sym p)
+      | no p ↦ getD-set-other now k i x 0 p ∙ s .done i (omega arith)
+    ];
+    rest = λ i h. getD-set-other now k i x 0 (omega arith) ∙ s .rest i (omega arith);
+  }
 
 -- one value at every place
 pub stored-whole : (x n : ℕ) {k : ℕ} {old now : List ℕ} → length old ≡ n → n ≤ k → Stored (λ i. x) k old now → now ≡ replicate n x

@@ -53,16 +53,18 @@ module _ (n : ℕ) (cost time : List ℕ) (most : n ≤ 64) (square : length cos
     pub useful-all : ((u t : ℕ) → u < n → t < n → entry n time u t ≡ leastTime U n u t) → ((u t : ℕ) → u < n → t < n → 0 < W u t → entry n time u t ≤ W u t) →
         (s : ℕ) → s < n → SameRow U W n s
     useful-all right cheap s l = transfer U W n s (flow-useful s l) (flow-all s l) λ u t k h d.
-        let (none, other) = useless u t k h d in
-        (is-false (tight U (leastTime U n s) u t) (λ e. omega (arith, ltb-true 0 (U u t) (tight-true U (leastTime U n s) u t e .linked))),
-        λ e r. let some : 0 < W u t = ltb-true 0 (W u t) e in
-        omega (arith, triangle U n s u (leastTime U n s) (leastTime U n u) (flow-useful s l .times) (flow-useful u k .times) t h, right u t k h, cheap u t k h some, other some))
+        let (none, other) = useless u t k h d in (
+          is-false (tight U (leastTime U n s) u t) (λ e. omega (arith, ltb-true 0 (U u t) (tight-true U (leastTime U n s) u t e .linked))),
+          λ e r. let some : 0 < W u t = ltb-true 0 (W u t) e in
+              omega (arith, triangle U n s u (leastTime U n s) (leastTime U n u) (flow-useful s l .times) (flow-useful u k .times) t h, right u t k h, cheap u t k h some, other some),
+        )
 
     -- times that are right over all links
     pub all-useful : ((u t : ℕ) → u < n → t < n → entry n time u t ≡ leastTime W n u t) → (s : ℕ) → s < n → SameRow W U n s
     all-useful right s l = transfer W U n s (flow-all s l) (flow-useful s l) λ u t k h d.
-        let (none, other) = useless u t k h (λ e. d (sym e)) in
-        (is-false (tight W (leastTime W n s) u t) (λ e.
-        other (ltb-true 0 (W u t) (tight-true W (leastTime W n s) u t e .linked))
-        (tight-useful W n s u t (leastTime W n s) (leastTime W n u) k h (flow-all s l .times) (flow-all u k .times) e ∙ sym (right u t k h))),
-        λ e r. absurd (omega (arith, ltb-true 0 (U u t) e)))
+        let (none, other) = useless u t k h (λ e. d (sym e)) in (
+          is-false (tight W (leastTime W n s) u t) (λ e.
+              other (ltb-true 0 (W u t) (tight-true W (leastTime W n s) u t e .linked))
+              (tight-useful W n s u t (leastTime W n s) (leastTime W n u) k h (flow-all s l .times) (flow-all u k .times) e ∙ sym (right u t k h))),
+          λ e r. absurd (omega (arith, ltb-true 0 (U u t) e)),
+        )

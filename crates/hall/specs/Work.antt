@@ -38,12 +38,12 @@ module _ (n : ℕ) (cost time ways share score : List ℕ) (some : upTo mostStop
       where
         same : found ≡ tables cost time′ ways′ share′ score
         same i = record {
-            cost = cost;
-            time = sym (a .times ∙ cond-false _ time e) i;
-            ways = sym (a .counts ∙ cond-false _ ways e) i;
-            share = sym (a .shares ∙ cond-false _ share e) i;
-            score = score
-          }
+          cost = cost;
+          time = sym (a .times ∙ cond-false _ time e) i;
+          ways = sym (a .counts ∙ cond-false _ ways e) i;
+          share = sym (a .shares ∙ cond-false _ share e) i;
+          score = score;
+        }
 
     -- none: the sums of shares fit, and with them the tables are those of the hall
     pub work-shares : fit ≡ true → Shares n share′
@@ -53,9 +53,9 @@ module _ (n : ℕ) (cost time ways share score : List ℕ) (some : upTo mostStop
     unfolding rule filled
     work-accepted e {score′} long sums =
         passed call found (tables cost time′ ways′ share′ score′) false _ cost refl (work-refusal ∙ rw (valid, sym (a .fitting) ∙ e)) λ i. record {
-            cost = cost;
-            time = (a .times ∙ cond-true _ time e) i;
-            ways = (a .counts ∙ cond-true _ ways e) i;
-            share = (a .shares ∙ cond-true _ share e) i;
-            score = worked-scores n cost share′ (a .shares ∙ cond-true _ share e) score′ (long ∙ lengths n found fits .scores) sums i
-          }
+          cost = cost;
+          time = (a .times ∙ cond-true _ time e) i;
+          ways = (a .counts ∙ cond-true _ ways e) i;
+          share = (a .shares ∙ cond-true _ share e) i;
+          score = worked-scores n cost share′ (a .shares ∙ cond-true _ share e) score′ (long ∙ lengths n found fits .scores) sums i;
+        }

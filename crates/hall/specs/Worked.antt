@@ -31,18 +31,18 @@ module _ (n : ℕ) (cost times counts shares : List ℕ) (clear : (s : ℕ) → 
   pub worked-of : Square n times counts shares → ((s : ℕ) → s < n → parts n times counts shares s ≡ rowOf (entry n cost) n s) → Worked n cost times counts shares
   unfolding filled
   worked-of q h = record {
-      times = table-of-parts n (leastTime (entry n cost) n) times (q .times) (λ s l. ap (λ p. p .time) (h s l));
-      counts = table-of-parts n (ways (entry n cost) n) counts (q .counts) (λ s l. ap (λ p. p .ways) (h s l) ∙ listTo-cong n (free-ways (entry n cost) n s (clear s l)));
-      shares = table-of-parts n (λ s. share (entry n cost) n s scale) shares (q .shares) (λ s l. ap (λ p. p .share) (h s l) ∙ listTo-cong n (λ v k. free-share (entry n cost) n s (clear s l) v))
-    }
+    times = table-of-parts n (leastTime (entry n cost) n) times (q .times) (λ s l. ap (λ p. p .time) (h s l));
+    counts = table-of-parts n (ways (entry n cost) n) counts (q .counts) (λ s l. ap (λ p. p .ways) (h s l) ∙ listTo-cong n (free-ways (entry n cost) n s (clear s l)));
+    shares = table-of-parts n (λ s. share (entry n cost) n s scale) shares (q .shares) (λ s l. ap (λ p. p .share) (h s l) ∙ listTo-cong n (λ v k. free-share (entry n cost) n s (clear s l) v));
+  }
 
   pub worked-parts : n ≤ 64 → Worked n cost times counts shares → (s : ℕ) → s < n → parts n times counts shares s ≡ rowOf (entry n cost) n s
   unfolding filled
   worked-parts m w s l = λ i. record {
-      time = (ap (λ x. part n x s) (w .times) ∙ part-table n (leastTime (entry n cost) n) s l m) i;
-      ways = (ap (λ x. part n x s) (w .counts) ∙ part-table n (ways (entry n cost) n) s l m ∙ sym (listTo-cong n (free-ways (entry n cost) n s (clear s l)))) i;
-      share = (ap (λ x. part n x s) (w .shares) ∙ part-table n (λ s. share (entry n cost) n s scale) s l m ∙ sym (listTo-cong n (λ v k. free-share (entry n cost) n s (clear s l) v))) i
-    }
+    time = (ap (λ x. part n x s) (w .times) ∙ part-table n (leastTime (entry n cost) n) s l m) i;
+    ways = (ap (λ x. part n x s) (w .counts) ∙ part-table n (ways (entry n cost) n) s l m ∙ sym (listTo-cong n (free-ways (entry n cost) n s (clear s l)))) i;
+    share = (ap (λ x. part n x s) (w .shares) ∙ part-table n (λ s. share (entry n cost) n s scale) s l m ∙ sym (listTo-cong n (λ v k. free-share (entry n cost) n s (clear s l) v))) i;
+  }
 
 -- no pair is crowded where no row has one
 pub uncrowded-rows : (n : ℕ) (cost : List ℕ) → uncrowded mostWays n cost ≡ allTo n (free (entry n cost) n)
@@ -65,11 +65,11 @@ module _ (n : ℕ) (cost shares : List ℕ) (e : shares ≡ filled scale n cost 
   -- and they fit 64 bits
   pub worked-shares : n ≤ 64 → length cost ≡ n * n → validCosts n cost ≡ true → uncrowded mostWays n cost ≡ true → Shares n shares
   worked-shares m q valid clear = record {
-      most = m;
-      square = rw e (unfold filled in length-table n (λ s. share (entry n cost) n s scale));
-      small = λ s v k l.
-          omega (arith, entry-share s v k l, free-share (entry n cost) n s (clear-rows n cost clear s k) v, open-limit (entry n cost) n scale v m l s mostWays k (hall-flows n cost m q valid s k))
-    }
+    most = m;
+    square = rw e (unfold filled in length-table n (λ s. share (entry n cost) n s scale));
+    small = λ s v k l.
+        omega (arith, entry-share s v k l, free-share (entry n cost) n s (clear-rows n cost clear s k) v, open-limit (entry n cost) n scale v m l s mostWays k (hall-flows n cost m q valid s k));
+  }
 
 -- the rows of all sources worked out over all links
 module _ (n set : ℕ) (cost out times counts shares times′ counts′ shares′ : List ℕ) (crowded : Bool) (most : n ≤ 64) (square : length cost ≡ n * n) (valid : validCosts n cost ≡ true)

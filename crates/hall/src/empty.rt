@@ -1,7 +1,7 @@
 // Empty hall: the tables of a hall without links.
-use book::Refusal;
 use super::limits::Hall;
 use super::places;
+use book::Refusal;
 ghost use mathlib.Core.Path.{_≡_};
 ghost use Prim.Native.Nat.{_*_, _≤_};
 ghost use lib.ListN.{length, replicate};
@@ -42,14 +42,19 @@ fn no_scores(score: &mut [u64])
     }
 }
 
-pub fn empty_hall(n: u64, cost: &mut [u32], time: &mut [u32], ways: &mut [u32], share: &mut [u64], score: &mut [u64]) -> Refusal
-    ensures {
-        λ r. ⌜
-            Done (record { n = n; ask = emptyHall })
-            (tables (now (cost .entry)) (now (time .entry)) (now (ways .entry)) (now (share .entry)) (now (score .entry)))
-            (tables (now (cost .exit)) (now (time .exit)) (now (ways .exit)) (now (share .exit)) (now (score .exit))) (says r)
-        ⌝
-    }
+pub fn empty_hall(
+    n: u64,
+    cost: &mut [u32],
+    time: &mut [u32],
+    ways: &mut [u32],
+    share: &mut [u64],
+    score: &mut [u64],
+) -> Refusal
+    ensures { λ r. ⌜
+        Done (record { n = n; ask = emptyHall })
+        (tables (now (cost .entry)) (now (time .entry)) (now (ways .entry)) (now (share .entry)) (now (score .entry)))
+        (tables (now (cost .exit)) (now (time .exit)) (now (ways .exit)) (now (share .exit)) (now (score .exit))) (says r)
+        ⌝ }
 {
     if !Hall::takes(n) {
         return Refusal::BadSize;

@@ -21,7 +21,14 @@ pub fn square(n: usize) -> usize
 }
 
 // Each of the five tables has its length.
-pub fn sized(n: usize, cost: &[u32], time: &[u32], ways: &[u32], share: &[u64], score: &[u64]) -> bool
+pub fn sized(
+    n: usize,
+    cost: &[u32],
+    time: &[u32],
+    ways: &[u32],
+    share: &[u64],
+    score: &[u64],
+) -> bool
     requires { ⌜ n ≤ 64 ⌝ }
     ensures { λ r. ⌜ r ≡ fits n (tables (now (cost .entry)) (now (time .entry)) (now (ways .entry)) (now (share .entry)) (now (score .entry))) ⌝ }
 {

@@ -36,7 +36,18 @@ pub fn renew(
 {
     let at = places::start(n, s);
     let end = at + n;
-    fill(n, s, cost, out, Hall::SCALE, Hall::WAYS, Hall::MARK, &mut time[at..end], &mut ways[at..end], &mut share[at..end])
+    fill(
+        n,
+        s,
+        cost,
+        out,
+        Hall::SCALE,
+        Hall::WAYS,
+        Hall::MARK,
+        &mut time[at..end],
+        &mut ways[at..end],
+        &mut share[at..end],
+    )
 }
 
 // Works out the rows of a set of sources. Says whether some pair of theirs has too many ways.

@@ -26,7 +26,15 @@ fn no_shortcut(cost: &[u32], time: &[u32]) -> bool
 }
 
 // The three parts of source s are its row over the links of the masks.
-fn row_passes(n: usize, s: usize, cost: &[u32], out: &[u64; 64], time: &[u32], ways: &[u32], share: &[u64]) -> bool
+fn row_passes(
+    n: usize,
+    s: usize,
+    cost: &[u32],
+    out: &[u64; 64],
+    time: &[u32],
+    ways: &[u32],
+    share: &[u64],
+) -> bool
     requires { ⌜ Job n (now cost) (now out) ⌝ }
     requires { ⌜ Square n (now time) (now ways) (now share) ⌝ }
     requires { ⌜ s < n ⌝ }
@@ -34,10 +42,28 @@ fn row_passes(n: usize, s: usize, cost: &[u32], out: &[u64; 64], time: &[u32], w
 {
     let at = places::start(n, s);
     let end = at + n;
-    check(n, s, cost, out, Hall::SCALE, Hall::WAYS, Hall::MARK, &time[at..end], &ways[at..end], &share[at..end])
+    check(
+        n,
+        s,
+        cost,
+        out,
+        Hall::SCALE,
+        Hall::WAYS,
+        Hall::MARK,
+        &time[at..end],
+        &ways[at..end],
+        &share[at..end],
+    )
 }
 
-fn rows_pass(n: usize, cost: &[u32], out: &[u64; 64], time: &[u32], ways: &[u32], share: &[u64]) -> bool
+fn rows_pass(
+    n: usize,
+    cost: &[u32],
+    out: &[u64; 64],
+    time: &[u32],
+    ways: &[u32],
+    share: &[u64],
+) -> bool
     requires { ⌜ Job n (now cost) (now out) ⌝ }
     requires { ⌜ Square n (now time) (now ways) (now share) ⌝ }
     ensures { λ r. ⌜ r ≡ rowsPass n (now (cost .entry)) (now (out .entry)) (now (time .entry)) (now (ways .entry)) (now (share .entry)) ⌝ }
@@ -65,7 +91,14 @@ fn scores_pass(n: usize, share: &[u64], score: &[u64]) -> bool
 }
 
 // The tables belong to their hall: valid costs without a crowded pair, and what a work out fills for them.
-pub fn sound(n: usize, cost: &[u32], time: &[u32], ways: &[u32], share: &[u64], score: &[u64]) -> bool
+pub fn sound(
+    n: usize,
+    cost: &[u32],
+    time: &[u32],
+    ways: &[u32],
+    share: &[u64],
+    score: &[u64],
+) -> bool
     requires { ⌜ (0 < n) × (n ≤ 64) × (sized n (tables (now cost) (now time) (now ways) (now share) (now score)) ≡ true) ⌝ }
     ensures { λ r. ⌜ r ≡ right scale mostWays n (tables (now (cost .entry)) (now (time .entry)) (now (ways .entry)) (now (share .entry)) (now (score .entry))) ⌝ }
 {

@@ -1,11 +1,11 @@
 // Work out: the tables of a brought cost table.
-use book::Refusal;
 use super::costs;
 use super::limits::Hall;
 use super::places;
 use super::rows;
 use super::scores;
 use super::snapshot;
+use book::Refusal;
 use row::masks::all_links;
 ghost use mathlib.Core.Path.{_≡_};
 ghost use mathlib.Core.Bool.{true};
@@ -16,7 +16,13 @@ ghost use Rattle.book.specs.Call.{Call, workOut};
 ghost use Rattle.hall.specs.Promise.{tables, says, Done, Square, Attempted};
 
 // Works out every row over valid costs. Where a pair has too many ways, it says false and the tables are as they were.
-pub fn attempt(n: usize, cost: &[u32], time: &mut [u32], ways: &mut [u32], share: &mut [u64]) -> bool
+pub fn attempt(
+    n: usize,
+    cost: &[u32],
+    time: &mut [u32],
+    ways: &mut [u32],
+    share: &mut [u64],
+) -> bool
     requires { ⌜ (0 < n) × (n ≤ 64) × (length (now cost) ≡ n * n) × (validCosts n (now cost) ≡ true) ⌝ }
     requires { ⌜ Square n (now time) (now ways) (now share) ⌝ }
     ensures { λ r. ⌜ Attempted n (now (cost .entry)) (now (time .entry)) (now (ways .entry)) (now (share .entry)) (now (time .exit)) (now (ways .exit)) (now (share .exit)) r ⌝ }
@@ -39,14 +45,19 @@ pub fn attempt(n: usize, cost: &[u32], time: &mut [u32], ways: &mut [u32], share
     true
 }
 
-pub fn work_out(n: u64, cost: &[u32], time: &mut [u32], ways: &mut [u32], share: &mut [u64], score: &mut [u64]) -> Refusal
-    ensures {
-        λ r. ⌜
-            Done (record { n = n; ask = workOut (now (cost .entry)) })
-            (tables (now (cost .entry)) (now (time .entry)) (now (ways .entry)) (now (share .entry)) (now (score .entry)))
-            (tables (now (cost .entry)) (now (time .exit)) (now (ways .exit)) (now (share .exit)) (now (score .exit))) (says r)
-        ⌝
-    }
+pub fn work_out(
+    n: u64,
+    cost: &[u32],
+    time: &mut [u32],
+    ways: &mut [u32],
+    share: &mut [u64],
+    score: &mut [u64],
+) -> Refusal
+    ensures { λ r. ⌜
+        Done (record { n = n; ask = workOut (now (cost .entry)) })
+        (tables (now (cost .entry)) (now (time .entry)) (now (ways .entry)) (now (share .entry)) (now (score .entry)))
+        (tables (now (cost .entry)) (now (time .exit)) (now (ways .exit)) (now (share .exit)) (now (score .exit))) (says r)
+        ⌝ }
 {
     if !Hall::takes(n) {
         return Refusal::BadSize;

@@ -57,7 +57,7 @@ module _ (lo hi : Costs) (n s : ℕ) (F : Flows lo n s) (F′ : Flows hi n s) (c
   Quiet m = (a t : ℕ) → a < n → t < n → d t < m → tight lo d a t ≡ true → lo a t ≡ hi a t
 
   -- no time is higher by the cheaper costs
-  falls : (t : ℕ) → t < n → d t ≤ d′ t
+  pub falls : (t : ℕ) → t < n → d t ≤ d′ t
   falls t l =
       omega (
         arith,

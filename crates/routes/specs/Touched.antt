@@ -20,7 +20,7 @@ use Rattle.routes.specs.Transfer.{SameRow}
 use Rattle.routes.specs.Cheaper.{Cheaper, Silent, Tells, improves, false-iff, left-false, lo-tells, either-tells, improves-tells, ends-tell}
 
 -- the rows agree the other way round too
-same-row-sym : (W W′ : Costs) (n s : ℕ) → SameRow W W′ n s → SameRow W′ W n s
+pub same-row-sym : (W W′ : Costs) (n s : ℕ) → SameRow W W′ n s → SameRow W′ W n s
 same-row-sym W W′ n s R =
     record {
       times = λ t l. sym (R .times t l);
@@ -208,7 +208,7 @@ one-back : (W W′ : Costs) (n u v : ℕ) → OneLink W W′ n u v → OneLink W
 one-back W W′ n u v only a t k l ne = only a t k l (λ e. ne (sym e))
 
 -- one changed link that is dearer by W′, or gone, makes W the cheaper costs
-one-cheaper : (W W′ : Costs) (n u v : ℕ) → OneLink W W′ n u v → (0 < W′ u v → (0 < W u v) × (W u v ≤ W′ u v)) →
+pub one-cheaper : (W W′ : Costs) (n u v : ℕ) → OneLink W W′ n u v → (0 < W′ u v → (0 < W u v) × (W u v ≤ W′ u v)) →
     Cheaper W W′ n
 one-cheaper W W′ n u v only h a t k l p = elim (ℕ-discrete (W a t) (W′ a t)) [
   | yes e ↦ omega arith

@@ -51,9 +51,13 @@ loop-less c = search needs
 loop-again : tie.Need-loop-again Inv-loop μ-loop
 loop-again c =
     let v = c .before .loop .inv in
-    let p = c .before .before .pre in
-    (omega arith, stored-more _ _ _ _ _ (omega arith) refl (v .1), stored-more _ _ _ _ _ (omega arith) refl (v .2),
-    stored-more _ _ _ _ _ (omega arith) refl (v .3), stored-more _ _ _ _ _ (omega arith) refl (v .4))
+    let p = c .before .before .pre in (
+      omega arith,
+      stored-more _ _ _ _ _ (omega arith) refl (v .1),
+      stored-more _ _ _ _ _ (omega arith) refl (v .2),
+      stored-more _ _ _ _ _ (omega arith) refl (v .3),
+      stored-more _ _ _ _ _ (omega arith) refl (v .4),
+    )
 
 same-length : tie.Need-same-length Inv-loop μ-loop
 same-length c = c .before .loop .inv .1 .long
@@ -75,7 +79,7 @@ returns c =
       costs = stored-whole 0 _ (p .0) (omega arith) (v .1);
       times = stored-whole mark _ (p .1) (omega arith) (v .2);
       counts = stored-whole 0 _ (p .2) (omega arith) (v .3);
-      shares = stored-whole 0 _ (p .3) (omega arith) (v .4)
+      shares = stored-whole 0 _ (p .3) (omega arith) (v .4);
     }
 
 pub blank-spec : {M : Type 1} → statement M

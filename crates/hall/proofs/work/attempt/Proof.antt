@@ -79,13 +79,13 @@ returns c =
     let q = sym ((c .before .before .before .before .before .before .before .before .before .before .before .before .before .before .before .before .before .before .before .before .before .before .before .before .before .before .before .before .before .before .before .before .before .before .before .before .before .before .before .before .before .before) .square .ensures .0) in
     let k = (c .before .before .before .before .before .before .before .before .before .before .before .before .before .before .before .before .before .before .before .before .before .before) .redo .kept .1 .1 .1 .1 in
     let over =
-        redone-over _ _ _ _ _ _ _ _ _ _ _ (p .0 .1) (p .0 .2) (p .0 .3) ((c .before .before .before .before .before .before .before .before .before .before .before .before .before .before .before .before .before .before .before .before .before .before .before .before .before .before .before .before) .all-links .ensures) ((c .before .before .before .before .before .before .before .before .before .before .before .before .before .before .before .before .before .before .before .before .before .before .before .before .before .before .before) .everyone .ensures)
-        ((c .before .before .before .before .before .before .before .before .before .before .before .before .before .before .before .before .before .before .before .before .before .before) .redo .ensures) in
+    redone-over _ _ _ _ _ _ _ _ _ _ _ (p .0 .1) (p .0 .2) (p .0 .3) ((c .before .before .before .before .before .before .before .before .before .before .before .before .before .before .before .before .before .before .before .before .before .before .before .before .before .before .before .before) .all-links .ensures) ((c .before .before .before .before .before .before .before .before .before .before .before .before .before .before .before .before .before .before .before .before .before .before .before .before .before .before .before) .everyone .ensures)
+    ((c .before .before .before .before .before .before .before .before .before .before .before .before .before .before .before .before .before .before .before .before .before .before) .redo .ensures) in
     record {
       fitting = sym (not-true _ (sym over ∙ (c .before .before .before .before .before .before .before .before .before .before .before .before .before .before .before) .if1 .taken));
       times = restored (p .1 .times ∙ q) ((c .before .before .before .before .before .before .before .before .before .before .before .before) .copy323 .kept .1 .1 .0 ∙ (k .0 ∙ p .1 .times) ∙ q) ((c .before .before .before .before .before .before .before .before .before .before .before .before .before .before .before .before .before .before .before .before .before .before .before .before .before .before .before .before .before .before .before .before .before .before .before .before .before .before .before) .copy32 .ensures) ((c .before .before .before .before .before .before .before .before .before .before .before .before) .copy323 .ensures);
       counts = restored (p .1 .counts ∙ q) ((c .before .before .before .before .before .before .before) .copy324 .kept .1 .1 .0 ∙ (k .1 .0 ∙ p .1 .counts) ∙ q) ((c .before .before .before .before .before .before .before .before .before .before .before .before .before .before .before .before .before .before .before .before .before .before .before .before .before .before .before .before .before .before .before .before .before .before .before) .copy322 .ensures) ((c .before .before .before .before .before .before .before) .copy324 .ensures);
-      shares = restored (p .1 .shares ∙ q) ((c .before .before) .copy642 .kept .1 .1 .0 ∙ (k .1 .1 .0 ∙ p .1 .shares) ∙ q) ((c .before .before .before .before .before .before .before .before .before .before .before .before .before .before .before .before .before .before .before .before .before .before .before .before .before .before .before .before .before .before .before) .copy64 .ensures) ((c .before .before) .copy642 .ensures)
+      shares = restored (p .1 .shares ∙ q) ((c .before .before) .copy642 .kept .1 .1 .0 ∙ (k .1 .1 .0 ∙ p .1 .shares) ∙ q) ((c .before .before .before .before .before .before .before .before .before .before .before .before .before .before .before .before .before .before .before .before .before .before .before .before .before .before .before .before .before .before .before) .copy64 .ensures) ((c .before .before) .copy642 .ensures);
     }
 
 same-length-4 : tie.Need-same-length-4
@@ -106,8 +106,8 @@ returns-2 c =
     let done = (c .before .before .before .before .before .before .before) .redo .ensures in
     let clear = not-false _ (sym (redone-over _ _ _ _ _ _ _ _ _ _ _ (p .0 .1) (p .0 .2) (p .0 .3) links all done) ∙ c .if1 .left) in
     let w =
-        redone-worked _ _ _ _ _ _ _ _ _ _ _ (p .0 .1) (p .0 .2) (p .0 .3) links all done clear
-        (record { times = k .0 ∙ p .1 .times; counts = k .1 .0 ∙ p .1 .counts; shares = k .1 .1 .0 ∙ p .1 .shares }) in
+    redone-worked _ _ _ _ _ _ _ _ _ _ _ (p .0 .1) (p .0 .2) (p .0 .3) links all done clear
+    (record { times = k .0 ∙ p .1 .times; counts = k .1 .0 ∙ p .1 .counts; shares = k .1 .1 .0 ∙ p .1 .shares }) in
     record { fitting = sym clear; times = w .times; counts = w .counts; shares = w .shares }
 
 pub attempt-spec : {M : Type 1} → statement M

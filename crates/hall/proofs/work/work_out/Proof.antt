@@ -39,9 +39,10 @@ returns-2 c =
     refused _ _ BadLength refl (bad-length _ _ some (failed ((c .before) .sized .ensures) (c .if2 .taken))) refl
 
 valid-requires : tie.Need-valid-requires
-valid-requires c κs =
-    (stops _ (held ((c .before .before .before .before .before .before .before) .takes .ensures) ((c .before .before .before .before .before .before) .if1 .left)) .1,
-    lengths _ _ (held ((c .before) .sized .ensures) (c .if2 .left)) .costs)
+valid-requires c κs = (
+  stops _ (held ((c .before .before .before .before .before .before .before) .takes .ensures) ((c .before .before .before .before .before .before) .if1 .left)) .1,
+  lengths _ _ (held ((c .before) .sized .ensures) (c .if2 .left)) .costs,
+)
 
 same-length-5 : tie.Need-same-length-5
 same-length-5 c = search needs

@@ -1,0 +1,23 @@
+// Document 01's number of a refusal.
+use book::Refusal;
+ghost use mathlib.Core.Path.{_≡_};
+ghost use Rattle.book.specs.Call.{number};
+
+pub fn code(r: Refusal) -> u32
+    ensures { λ k. ⌜ k ≡ number r ⌝ }
+{
+    match r {
+        Refusal::Accepted => 0,
+        Refusal::BadSize => 1,
+        Refusal::BadLength => 2,
+        Refusal::BadTables => 3,
+        Refusal::BadStop => 4,
+        Refusal::BadCost => 5,
+        Refusal::LinkPresent => 6,
+        Refusal::LinkAbsent => 7,
+        Refusal::NotCheaper => 8,
+        Refusal::BadImage => 9,
+        Refusal::ShortBuffer => 10,
+        Refusal::TooManyWays => 11,
+    }
+}
