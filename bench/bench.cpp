@@ -1,0 +1,232 @@
+// Work out, audit and edit of the proved library beside Boost's and igraph's betweenness, in one process and on the same
+// graphs. Times are the least of several repetitions; ratios are theirs divided by ours.
+#include "hall.h"
+
+#include <boost/graph/adjacency_list.hpp>
+#include <boost/graph/betweenness_centrality.hpp>
+#include <igraph/igraph.h>
+
+#include <algorithm>
+#include <chrono>
+#include <cmath>
+#include <cstdio>
+#include <functional>
+#include <random>
+#include <string>
+#include <vector>
+
+using Clock = std::chrono::steady_clock;
+
+struct Hall {
+    uint64_t n;
+    std::vector<uint32_t> cost, time, ways;
+    std::vector<uint64_t> share, score;
+
+    explicit Hall(uint64_t stops)
+        : n(stops), cost(n * n), time(n * n), ways(n * n), share(n * n), score(n) {}
+
+    uint32_t work_out() {
+        return hall_work_out(n, cost.data(), cost.size(), time.data(), time.size(), ways.data(), ways.size(),
+                             share.data(), share.size(), score.data(), score.size());
+    }
+    uint32_t audit() const {
+        return hall_audit(n, cost.data(), cost.size(), time.data(), time.size(), ways.data(), ways.size(),
+                          share.data(), share.size(), score.data(), score.size());
+    }
+    hall_edited insert(uint64_t u, uint64_t v, uint64_t c) {
+        return hall_insert(n, u, v, c, cost.data(), cost.size(), time.data(), time.size(), ways.data(), ways.size(),
+                           share.data(), share.size(), score.data(), score.size());
+    }
+    hall_edited remove(uint64_t u, uint64_t v) {
+        return hall_delete(n, u, v, cost.data(), cost.size(), time.data(), time.size(), ways.data(), ways.size(),
+                           share.data(), share.size(), score.data(), score.size());
+    }
+};
+
+struct Link {
+    uint64_t from, to;
+    uint32_t cost;
+};
+
+static std::vector<Link> links_of(const Hall &h) {
+    std::vector<Link> links;
+    for (uint64_t u = 0; u < h.n; u++)
+        for (uint64_t v = 0; v < h.n; v++)
+            if (h.cost[u * h.n + v]) links.push_back({u, v, h.cost[u * h.n + v]});
+    return links;
+}
+
+// Microseconds of one run, the least of `times` measurements of `batch` runs each.
+static double least_time(int times, int batch, const std::function<void()> &run) {
+    double best = 1e300;
+    for (int i = 0; i < times; i++) {
+        auto start = Clock::now();
+        for (int j = 0; j < batch; j++) run();
+        std::chrono::duration<double, std::micro> spent = Clock::now() - start;
+        best = std::min(best, spent.count() / batch);
+    }
+    return best;
+}
+
+struct Boost {
+    typedef boost::adjacency_list<boost::vecS, boost::vecS, boost::directedS, boost::no_property,
+                                  boost::property<boost::edge_weight_t, uint32_t>>
+        Graph;
+    Graph graph;
+    std::vector<double> scores;
+
+    explicit Boost(const Hall &h) : graph(h.n), scores(h.n) {
+        for (const Link &l : links_of(h)) boost::add_edge(l.from, l.to, l.cost, graph);
+    }
+    void run() {
+        auto index = boost::get(boost::vertex_index, graph);
+        auto centrality = boost::make_iterator_property_map(scores.begin(), index);
+        boost::brandes_betweenness_centrality(
+            graph, boost::centrality_map(centrality).vertex_index_map(index).weight_map(
+                       boost::get(boost::edge_weight, graph)));
+    }
+};
+
+struct Igraph {
+    igraph_t graph;
+    igraph_vector_t weights, scores;
+
+    explicit Igraph(const Hall &h) {
+        std::vector<Link> links = links_of(h);
+        igraph_vector_int_t ends;
+        igraph_vector_int_init(&ends, 0);
+        igraph_vector_init(&weights, 0);
+        for (const Link &l : links) {
+            igraph_vector_int_push_back(&ends, l.from);
+            igraph_vector_int_push_back(&ends, l.to);
+            igraph_vector_push_back(&weights, l.cost);
+        }
+        igraph_create(&graph, &ends, h.n, IGRAPH_DIRECTED);
+        igraph_vector_int_destroy(&ends);
+        igraph_vector_init(&scores, h.n);
+    }
+    ~Igraph() {
+        igraph_destroy(&graph);
+        igraph_vector_destroy(&weights);
+        igraph_vector_destroy(&scores);
+    }
+    void run() { igraph_betweenness(&graph, &scores, igraph_vss_all(), IGRAPH_DIRECTED, &weights); }
+};
+
+static bool agrees(const Hall &h, const std::function<double(size_t)> &theirs) {
+    for (size_t v = 0; v < h.n; v++) {
+        double ours = double(h.score[v]) / HALL_SCALE;
+        if (std::fabs(ours - theirs(v)) > 1e-6 * (1 + ours)) return false;
+    }
+    return true;
+}
+
+static size_t useful_links(const Hall &h) {
+    size_t useful = 0;
+    for (size_t i = 0; i < h.cost.size(); i++) useful += h.cost[i] && h.cost[i] == h.time[i];
+    return useful;
+}
+
+static int measure(const std::string &name, Hall h, std::mt19937 &random) {
+    if (h.work_out() != 0) {
+        std::printf("%-28s refused\n", name.c_str());
+        return 1;
+    }
+    Boost boost(h);
+    Igraph igraph(h);
+    boost.run();
+    igraph.run();
+    bool same = agrees(h, [&](size_t v) { return boost.scores[v]; }) &&
+                agrees(h, [&](size_t v) { return VECTOR(igraph.scores)[v]; });
+
+    double ours = least_time(30, 20, [&] { h.work_out(); });
+    double audit = least_time(30, 20, [&] { h.audit(); });
+    double theirs = least_time(20, 5, [&] { boost.run(); });
+    double others = least_time(20, 5, [&] { igraph.run(); });
+
+    // Edits: a link is deleted and inserted again, for a sample of the links; each is one edit with its audit.
+    std::vector<Link> links = links_of(h);
+    std::shuffle(links.begin(), links.end(), random);
+    if (links.size() > 64) links.resize(64);
+    uint64_t edits = 0, rows = 0;
+    auto all_edits = [&] {
+        edits = rows = 0;
+        for (const Link &l : links) {
+            hall_edited gone = h.remove(l.from, l.to);
+            if (gone.refusal) continue;
+            hall_edited back = h.insert(l.from, l.to, l.cost);
+            edits += 2;
+            rows += gone.rows + back.rows;
+        }
+    };
+    double edit = least_time(10, 1, all_edits);
+    edit /= edits ? edits : 1;
+    same = same && h.audit() == 0;
+
+    std::printf("%-28s %5zu %6zu | %8.1f %8.1f %8.1f %5.1f | %6.2f %6.2f | %6.2f %6.2f | %s\n", name.c_str(),
+                links_of(h).size(), useful_links(h), ours, audit, edit, edits ? double(rows) / edits : 0.0, theirs / ours,
+                others / ours, theirs / edit, others / edit, same ? "agree" : "DIFFER");
+    return same ? 0 : 1;
+}
+
+static Hall random_hall(uint64_t n, size_t links, std::mt19937 &random) {
+    Hall h(n);
+    std::uniform_int_distribution<uint32_t> stop(0, n - 1), cost(1, 65535);
+    // a ring first, so that every stop is reached
+    size_t made = 0;
+    for (uint64_t u = 0; u < n; u++, made++) h.cost[u * n + (u + 1) % n] = cost(random);
+    while (made < links) {
+        uint64_t u = stop(random), v = stop(random);
+        if (u == v || h.cost[u * n + v]) continue;
+        h.cost[u * n + v] = cost(random);
+        made++;
+    }
+    return h;
+}
+
+static Hall grid(uint64_t side, std::mt19937 &random) {
+    Hall h(side * side);
+    std::uniform_int_distribution<uint32_t> cost(1, 65535);
+    for (uint64_t r = 0; r < side; r++)
+        for (uint64_t c = 0; c < side; c++) {
+            uint64_t here = r * side + c;
+            if (c + 1 < side) h.cost[here * h.n + here + 1] = h.cost[(here + 1) * h.n + here] = cost(random);
+            if (r + 1 < side) h.cost[here * h.n + here + side] = h.cost[(here + side) * h.n + here] = cost(random);
+        }
+    return h;
+}
+
+static Hall ring(uint64_t n, std::mt19937 &random) {
+    Hall h(n);
+    std::uniform_int_distribution<uint32_t> cost(100, 200);
+    for (uint64_t u = 0; u < n; u++) h.cost[u * n + (u + 1) % n] = cost(random);
+    for (uint64_t u = 0; u < n; u += 8) h.cost[u * n + (u + 5) % n] = 4 * cost(random);
+    return h;
+}
+
+// One line a link, for the comparison with NetworkX.
+static void write_links(const char *path, const Hall &h) {
+    std::FILE *f = std::fopen(path, "w");
+    if (!f) return;
+    std::fprintf(f, "%llu\n", (unsigned long long)h.n);
+    for (const Link &l : links_of(h))
+        std::fprintf(f, "%llu %llu %u\n", (unsigned long long)l.from, (unsigned long long)l.to, l.cost);
+    std::fclose(f);
+}
+
+int main(int argc, char **argv) {
+    std::mt19937 random(7);
+    std::printf("%-28s %5s %6s | %8s %8s %8s %5s | %6s %6s | %6s %6s |\n", "hall", "links", "useful", "work out", "audit",
+                "edit", "rows", "Boost", "igraph", "Boost", "igraph");
+    std::printf("%-28s %5s %6s | %8s %8s %8s %5s | %13s | %13s |\n", "", "", "", "us", "us", "us", "", "/ work out", "/ edit");
+    int bad = 0;
+    for (size_t links : {128, 256, 1024, 4032}) {
+        Hall h = random_hall(64, links, random);
+        if (argc > 1) write_links((std::string(argv[1]) + "/random" + std::to_string(links)).c_str(), h);
+        bad += measure("64 stops, random", h, random);
+    }
+    bad += measure("8 x 8 two-way grid", grid(8, random), random);
+    bad += measure("64 stops, ring and bypasses", ring(64, random), random);
+    bad += measure("16 stops, random", random_hall(16, 40, random), random);
+    return bad ? 1 : 0;
+}
