@@ -1,0 +1,24 @@
+// Reads a text from standard input and writes its listing.
+use libc::STDIN_FILENO;
+use libc::STDOUT_FILENO;
+
+// A byte more than the longest text that is read, and room for the listing of any text.
+fn input() -> [u8; 32769] {
+    [0; 32769]
+}
+
+fn output() -> [u8; 430000] {
+    [0; 430000]
+}
+
+fn main() {
+    let mut text = input();
+    let read = io::read_full(STDIN_FILENO, &mut text);
+    let mut room = output();
+    let listed = listing::list(&text[..read], &mut room);
+    let end = listed.length;
+    // the room always suffices
+    if end <= 430000 {
+        io::write_all(STDOUT_FILENO, &room[..end]);
+    }
+}

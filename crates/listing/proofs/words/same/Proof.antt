@@ -1,0 +1,83 @@
+use borrow.Author.Needs.{needs}
+use Prim.Native.Nat.{ℕ, _-_, _<_, _≤_}
+use mathlib.Core.Path.{_≡_, refl, sym, _∙_, ap}
+use mathlib.Core.Bool.{Bool, true, false}
+use mathlib.Core.List.{List}
+use native.Mathlib.Omega.{arith}
+use lib.ListN.{length, getD}
+use lib.Seq.{ext-getD}
+use borrow.Author.Count.{below-more}
+use Rattle.routes.specs.Route.{same}
+use Rattle.routes.specs.Lists.{same-refl, same-true}
+use Rattle.listing.proofs.words.same.Statement.{statement}
+use Rattle.listing.proofs.words.same.Tie as tie
+use Rattle.listing.proofs.words.same.Reads as reads
+use Rattle.listing.proofs.words.same.Lts as lts
+
+unlike : (a b : List ℕ) → (a ≡ b → ⊥) → same a b ≡ false
+unlike a b h = go (same a b) refl
+  where
+    go : (x : Bool) → same a b ≡ x → x ≡ false
+    go true e = absurd (h (same-true a b e))
+    go false e = refl
+
+abbrev Inv-loop : tie.InvT-loop
+Inv-loop a b i₀ i = (i ≤ length a) × ((k : ℕ) → k < i → getD a k 0 ≡ getD b k 0)
+
+abbrev μ-loop : tie.MeasureT-loop
+μ-loop a b i₀ i = length a - i
+
+-- src/words.rt:30:9
+returns : tie.Need-returns Inv-loop μ-loop
+returns c = sym (unlike _ _ (λ e. c .if1 .taken (ap length e)))
+
+-- src/words.rt:33:5
+loop-holds : tie.Need-loop-holds Inv-loop μ-loop
+loop-holds c = (omega arith, λ k l. absurd (omega arith))
+
+-- src/words.rt:34:12
+shared-slice-read-if2 : tie.Need-shared-slice-read-if2 Inv-loop μ-loop
+shared-slice-read-if2 c = omega arith
+
+-- src/words.rt:34:20
+shared-slice-read-if2-2 : tie.Need-shared-slice-read-if2-2 Inv-loop μ-loop
+shared-slice-read-if2-2 c = omega arith
+
+-- src/words.rt:35:13
+returns-2 : tie.Need-returns-2 Inv-loop μ-loop
+returns-2 c = sym (unlike _ _ (λ e. c .if2 .taken (ap (λ l. getD l ((c .before .before .before .before) .loop .i) 0) e)))
+
+-- src/words.rt:37:9
+add-i : tie.Need-add-i Inv-loop μ-loop
+add-i c = omega arith
+
+-- src/words.rt:33:5
+loop-less : tie.Need-loop-less Inv-loop μ-loop
+loop-less c = omega arith
+
+-- src/words.rt:33:5
+loop-again : tie.Need-loop-again Inv-loop μ-loop
+loop-again c = (omega arith, below-more _ _ ((c .before .before .before .before) .loop .inv .1) (c .if2 .left))
+
+-- src/words.rt:26:1
+returns-3 : tie.Need-returns-3 Inv-loop μ-loop
+returns-3 c = let a = (c .before .before .before) .args .a .now in
+    let b = (c .before .before .before) .args .b .now in
+    let equal : a ≡ b = ext-getD 0 a b ((c .before .before) .if1 .left) (λ k l. (c .before) .loop .inv .1 k (omega arith)) in
+    sym (same-refl a) ∙ ap (same a) equal
+
+pub same-spec : {M : Type 1} → statement M
+same-spec =
+    tie.close
+    (tie.spec
+    Inv-loop
+    μ-loop
+    returns
+    loop-holds
+    shared-slice-read-if2
+    shared-slice-read-if2-2
+    returns-2
+    add-i
+    loop-less
+    loop-again
+    returns-3)

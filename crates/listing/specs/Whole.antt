@@ -1,0 +1,60 @@
+-- What the listing's function does with the lent output, and the listing by its first line. Assumes nothing.
+use Prim.Native.Nat.{ℕ, suc, _+_, _<_, _≤_}
+use mathlib.Core.Path.{_≡_, refl, sym, _∙_, ap, subst⁻¹}
+use mathlib.Core.Bool.{Bool, true, false, cond}
+use mathlib.Core.List.{List, [], _∷_, _++_}
+use native.Mathlib.Numerals.{add-one}
+use native.Mathlib.Omega.{arith}
+use lib.Dec.{ltb}
+use lib.ListN.{length, take, drop, length-append}
+use lib.Seq.{take-nil, sets-eq}
+use borrow.Author.Tests.{le-ltb, lt-ltb}
+use Rattle.book.specs.Hall.{mostStops, upTo}
+use Rattle.listing.specs.declared.Listed.{Listed}
+use Rattle.listing.specs.Text.{bytes, parts, lines, words, hallOf, hallLine, report, ofLines, listing}
+use Rattle.listing.specs.Reading.{cutAt, line-first}
+use Rattle.listing.specs.Printing.{Printed}
+use Rattle.listing.specs.Running.{noLinks}
+
+-- the listing from the front of the output, the bytes past it as they were; an output that is too short for some listing stays as it is
+abbrev pub wrote : List ℕ → List ℕ → Listed × List ℕ
+wrote input output =
+    let text : List ℕ = listing input in
+    cond (ltb (length output) 430000) (record { fits = false; length = 0 }, output)
+    (record { fits = true; length = length text }, text ++ drop (length text) output)
+
+pub wrote-none : (input output : List ℕ) → length output < 430000 → (record { fits = false; length = 0 }, output) ≡ wrote input output
+wrote-none input output h = rw (lt-ltb (length output) 430000 h)
+
+pub wrote-printed : (input output : List ℕ) (end : ℕ) (out : List ℕ) → 430000 ≤ length output → Printed (listing input) 0 output end out →
+    (record { fits = true; length = end }, out) ≡ wrote input output
+wrote-printed input output end out h p =
+    let text : List ℕ = listing input in
+    let zero : 0 + length text ≡ length text = omega arith in
+    let whole : out ≡ text ++ drop (length text) output = p .written ∙ sets-eq text output 0 (omega (arith, p .behind, p .inside)) ∙ ap (λ (k : ℕ). text ++ drop k output) zero in
+    rw (le-ltb (length output) 430000 h, p .behind, zero, whole)
+
+pub too-long : (input : List ℕ) → 32768 < length input → listing input ≡ bytes "too long\n"
+unfolding listing
+too-long input h = rw (lt-ltb 32768 (length input) h)
+
+-- a text that is not too long, by its first line
+pub by-hall : (input : List ℕ) (e : ℕ) → length input ≤ 32768 → e ≡ cutAt 10 input →
+    let n : ℕ = hallOf (words (take e input)) in
+    listing input ≡ cond (upTo mostStops n) (hallLine n ++ report 2 (noLinks n) (lines (drop (e + 1) input))) (bytes "no hall\n")
+unfolding listing ofLines hallOf parts
+by-hall [] e h cut = rw (take-nil {A = ℕ} e)
+by-hall (x ∷ input) e h cut = rw (le-ltb 32768 (length (x ∷ input)) h, cut, line-first (x ∷ input) (omega arith), add-one (cutAt 10 (x ∷ input)))
+
+-- the length that is answered lies within the output
+pub wrote-within : (input output : List ℕ) (r : Listed) (out : List ℕ) → (r, out) ≡ wrote input output → r .length ≤ length out
+wrote-within input output r out e = subst⁻¹ (λ (x : Listed × List ℕ). x .0 .length ≤ length (x .1)) e (go (ltb (length output) 430000))
+  where
+    text : List ℕ
+    text = listing input
+
+    go : (b : Bool) →
+        let x : Listed × List ℕ = cond b (record { fits = false; length = 0 }, output) (record { fits = true; length = length text }, text ++ drop (length text) output) in
+        x .0 .length ≤ length (x .1)
+    go true = omega arith
+    go false = omega (arith, length-append text (drop (length text) output))
