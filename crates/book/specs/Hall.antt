@@ -67,8 +67,7 @@ uncrowded m n cost = allTo n (λ s. allTo n (λ t. leb (ways (entry n cost) n s 
 unfoldable pub right : ℕ → ℕ → ℕ → Tables → Bool
 right L m n t =
     let f : Tables = filled L n (t .cost) in
-    validCosts n (t .cost) && (uncrowded m n (t .cost) && (same (t .time) (f .time) && (same (t .ways) (f .ways) &&
-    (same (t .share) (f .share) && same (t .score) (f .score)))))
+    validCosts n (t .cost) && (uncrowded m n (t .cost) && (same (t .time) (f .time) && (same (t .ways) (f .ways) && (same (t .share) (f .share) && same (t .score) (f .score)))))
 
 -- a quickest route from s, over the costs before or after, uses the link u to v
 unfoldable pub touched : ℕ → List ℕ → List ℕ → ℕ → ℕ → ℕ → Bool
@@ -94,16 +93,14 @@ imageOf n cost =
 unfoldable pub validRecord : ℕ → List ℕ → ℕ → Bool
 validRecord n image i =
     let key : ℕ → ℕ = λ j. 256 * field image (4 * j) 1 + field image (4 * j + 1) 1 in
-    validPair n (field image (4 * i) 1) (field image (4 * i + 1) 1) && (upTo largestCost (field image (4 * i + 2) 2) &&
-    (eqb i 0 || ltb (key (i - 1)) (key i)))
+    validPair n (field image (4 * i) 1) (field image (4 * i + 1) 1) && (upTo largestCost (field image (4 * i + 2) 2) && (eqb i 0 || ltb (key (i - 1)) (key i)))
 
 -- the bytes are an image of a hall of n stops: read from the end
 unfoldable pub isImage : ℕ → List ℕ → Bool
 isImage n image =
     let at : ℕ = length image - 8 in
     let links : ℕ = field image (at + 2) 2 in
-    leb 8 (length image) && (eqb (field image at 1) n && (eqb (field image (at + 1) 1) 1 &&
-    (eqb (field image (at + 4) 4) (4 * links) && (eqb (4 * links) at && allTo links (validRecord n image)))))
+    leb 8 (length image) && (eqb (field image at 1) n && (eqb (field image (at + 1) 1) 1 && (eqb (field image (at + 4) 4) (4 * links) && (eqb (4 * links) at && allTo links (validRecord n image)))))
 
 -- the cost table of an image's hall
 unfoldable pub costsOf : ℕ → List ℕ → List ℕ
