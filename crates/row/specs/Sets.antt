@@ -1,18 +1,12 @@
 -- What the small steps on words and numbers give. Assumes nothing.
 use Prim.Native.Nat.{ℕ, suc, _+_, _*_, _^_, _<_, _≤_, min}
 use mathlib.Core.Path.{_≡_}
-use mathlib.Core.Bool.{Bool, true, cond}
+use mathlib.Core.Bool.{true, cond}
 use mathlib.Core.List.{List}
 use lib.Bits.{bitOr}
 use lib.Dec.{ltb, leb}
 use lib.ListN.{length, getD}
 use Rattle.routes.specs.Route.{has, sumTo}
-
--- r is one of the stops a and b, with the less time
-pub record Nearer (time : List ℕ) (a b r : ℕ) : Type 0 where
-  pub one : (p : ℕ → Bool) → p a ≡ true → p b ≡ true → p r ≡ true
-  pub left : getD time r 0 ≤ getD time a 0
-  pub right : getD time r 0 ≤ getD time b 0
 
 -- r is a stop of least time in the set
 pub record Nearest (time : List ℕ) (set r : ℕ) : Type 0 where

@@ -1,11 +1,13 @@
 // Dijkstra's algorithm: stops are settled from near to far.
 use super::sets;
 ghost use mathlib.Core.Path.{_≡_};
-ghost use Prim.Native.Nat.{ℕ, suc, _+_, _<_, _≤_, min};
+ghost use mathlib.Core.Bool.{cond};
+ghost use Prim.Native.Nat.{suc, _+_, _<_, _≤_, min};
+ghost use lib.Dec.{ltb};
 ghost use lib.ListN.{length};
 ghost use Rattle.row.specs.Promise.{masked};
 ghost use Rattle.row.specs.Turns.{Ground, Begun, Settled};
-ghost use Rattle.row.specs.Sets.{Nearer, Nearest, Below, Tally, sumOver, joinedBy, Offers, Offered};
+ghost use Rattle.row.specs.Sets.{Nearest, Below, Tally, sumOver, joinedBy, Offers, Offered};
 
 // Settles every stop that the source reaches, keeps their order, and answers how many there are.
 pub fn settle(
@@ -48,21 +50,23 @@ fn nearest(time: &[u32], frontier: u64) -> usize
     ensures { λ r. ⌜ Nearest (now (time .entry)) frontier r ⌝ }
 {
     let mut best = sets::lowest(frontier);
+    let mut low = time[best];
     let mut left = sets::rest(frontier);
     while left != 0 {
-        best = nearer(time, best, sets::lowest(left));
+        let t = sets::lowest(left);
+        let at = time[t];
+        best = nearer(at, low, t, best);
+        low = lower(at, low);
         left = sets::rest(left);
     }
     best
 }
 
-// The one of two stops that has less time.
-fn nearer(time: &[u32], a: usize, b: usize) -> usize
-    requires { ⌜ a < length (now time) ⌝ }
-    requires { ⌜ b < length (now time) ⌝ }
-    ensures { λ r. ⌜ Nearer (now (time .entry)) a b r ⌝ }
+// The stop t where its time is below that of the best so far.
+fn nearer(at: u32, low: u32, t: usize, best: usize) -> usize
+    ensures { λ r. ⌜ r ≡ cond (ltb at low) t best ⌝ }
 {
-    if time[b] < time[a] { b } else { a }
+    if at < low { t } else { best }
 }
 
 // The ways into a stop: a first count and those of its predecessors, counted up to limit + 1.

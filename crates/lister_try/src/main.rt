@@ -1,0 +1,99 @@
+// Writes the lister's tables of two halls that were worked out by hand, and what the edits that
+// make and change the first of them touch.
+ghost use Prim.Native.Nat.{_<_};
+
+// Writes a line: a name and the first `count` numbers of a table.
+fn line(name: &[u8], table: &[u64], count: usize) {
+    io::write_all(1, name);
+    for i in 0..count {
+        io::write_all(1, b" ");
+        io::print_decimal(1, at(table, i));
+    }
+    io::write_all(1, b"\n");
+}
+
+fn at(table: &[u64], i: usize) -> u64 {
+    if i < table.len() { table[i] } else { 0 }
+}
+
+// Writes the four tables of a hall; they have n × n entries.
+fn hall(cost: &[u32], n: u64, entries: usize) {
+    let mut time = [0u64; 64];
+    let mut ways = [0u64; 64];
+    let mut share = [0u64; 64];
+    let mut score = [0u64; 8];
+    lister::tables(cost, n, &mut time, &mut ways, &mut share, &mut score);
+    line(b"time", &time, entries);
+    line(b"ways", &ways, entries);
+    line(b"share", &share, entries);
+    line(b"score", &score, n as usize);
+}
+
+fn put(table: &mut [u32], i: usize, c: u32) {
+    if i < table.len() {
+        table[i] = c;
+    }
+}
+
+fn copy(from: &[u32], to: &mut [u32]) {
+    for i in 0..from.len() {
+        put(to, i, from[i]);
+    }
+}
+
+// Gives the link from u to v of a hall of four stops the cost c, and writes the set of the sources
+// that this touches, and their number. `before` is left as the former cost table.
+fn edit(before: &mut [u32], cost: &mut [u32], u: usize, v: usize, c: u32)
+    requires { ⌜ u < 4 ⌝ }
+    requires { ⌜ v < 4 ⌝ }
+{
+    copy(cost, before);
+    put(cost, u * 4 + v, c);
+    let set = lister::touched(before, cost, 4, u as u64, v as u64);
+    let answer = [set, lister::number(set)];
+    line(b"touched", &answer, 2);
+}
+
+fn main() {
+    let mut former = [0u32; 16];
+    let mut present = [0u32; 16];
+    let before: &mut [u32] = &mut former;
+    let diamond: &mut [u32] = &mut present;
+    edit(before, diamond, 0, 1, 5);
+    edit(before, diamond, 0, 2, 5);
+    edit(before, diamond, 1, 3, 5);
+    edit(before, diamond, 2, 3, 5);
+    hall(diamond, 4, 16);
+    edit(before, diamond, 2, 3, 4);
+    hall(diamond, 4, 16);
+    edit(before, diamond, 2, 3, 0);
+    hall(diamond, 4, 16);
+    let ties = [
+        0u32,
+        2,
+        1,
+        0,
+        0,
+        0,
+        0,
+        0,
+        3,
+        0,
+        0,
+        1,
+        0,
+        4,
+        0,
+        0,
+        0,
+        0,
+        0,
+        1,
+        0,
+        0,
+        0,
+        0,
+        0,
+    ];
+    hall(&ties, 5, 25);
+}
