@@ -11,10 +11,3 @@ pub mod Worked
 pub mod Work
 pub mod Useful
 pub mod Sound
-pub mod EditPromise
-pub mod EditMasks
-pub mod EditLaws
-pub mod EditCalls
-pub mod ImagePromise
-pub mod Writer
-pub mod Reader

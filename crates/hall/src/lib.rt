@@ -1,19 +1,13 @@
-// The hall: its type, its limits, and every call on its tables.
+// The hall: its type, its limits, and the calls that fill or judge its tables: empty hall, work out and audit.
+// The other modules are the work below the calls, which edits and images share.
 pub mod audit;
 pub mod code;
-mod costs;
-pub mod edit;
+pub mod costs;
 pub mod empty;
-mod fields;
-pub mod image_check;
-pub mod image_read;
-pub mod image_write;
 pub mod limits;
-mod permit;
-mod places;
-mod rows;
-mod scores;
-mod snapshot;
-mod sound;
-mod touch;
+pub mod places;
+pub mod rows;
+pub mod scores;
+pub mod snapshot;
+pub mod sound;
 pub mod work;

@@ -1,16 +1,16 @@
 // The C face of the hall: each call over pointers and lengths, with document 01's number for its refusal.
 // The header is host/hall.h.
+use edits::Edited;
+use edits::cheapen;
+use edits::delete;
+use edits::insert;
 use hall::audit::audit;
 use hall::code::code;
-use hall::edit::Edited;
-use hall::edit::cheapen;
-use hall::edit::delete;
-use hall::edit::insert;
 use hall::empty::empty_hall;
-use hall::image_check::hall_image_check;
-use hall::image_read::image_read;
-use hall::image_write::image_write;
 use hall::work::work_out;
+use images::image_check::hall_image_check;
+use images::image_read::image_read;
+use images::image_write::image_write;
 ghost use mathlib.Core.Path.{_≡_};
 ghost use mathlib.Core.List.{[]};
 ghost use Rattle.book.specs.Call.{Call, emptyHall, workOut, audit, edit, imageWrite, imageRead, number, imageCheck};

@@ -4,7 +4,6 @@ use super::words;
 use crate::Line;
 use book::Kind;
 use hall::code;
-use hall::edit;
 use hall::empty;
 ghost use Prim.Native.Nat.{_+_, _*_, _<_, _≤_};
 ghost use mathlib.Core.Path.{_≡_};
@@ -41,7 +40,7 @@ fn edit(
         (tables (now (cost .exit)) (now (time .exit)) (now (ways .exit)) (now (share .exit)) (now (score .exit))) at (now (out .entry)) r (now (out .exit))
         ⌝ }
 {
-    let done = edit::edit_right(kind, n, u, v, c, cost, time, ways, share, score);
+    let done = edits::edit_right(kind, n, u, v, c, cost, time, ways, share, score);
     let refusal = done.refusal;
     let rows = done.rows;
     print::answer(i, code::code(refusal) as u64, rows as u64, out, at)

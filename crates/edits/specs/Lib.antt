@@ -1,0 +1,4 @@
+pub mod EditPromise
+pub mod EditMasks
+pub mod EditLaws
+pub mod EditCalls

@@ -1,0 +1,3 @@
+pub mod ImagePromise
+pub mod Writer
+pub mod Reader

@@ -1,0 +1,154 @@
+-- The steps of an image's writer, and what the call answers. Assumes nothing.
+use Prim.Native.Nat.{ℕ, zero, suc, _+_, _*_, _/_, _%_, _^_, _<_, _≤_}
+use mathlib.Core.Path.{_≡_, refl, sym, _∙_, ap}
+use mathlib.Core.Bool.{Bool, true, false, cond, _&&_, and-false}
+use mathlib.Core.List.{List, [], _++_}
+use native.Mathlib.Nat.{add-zero, zero-mul, suc-mul, div-div-eq-div-mul}
+use native.Mathlib.Numerals.{add-one}
+use native.Mathlib.Omega.{arith}
+use lib.Dec.{leb}
+use lib.ListN.{length, getD, drop}
+use lib.Seq.{sets}
+use borrow.Author.Tests.{le-leb, lt-leb}
+use Rattle.routes.specs.Route.{sumTo, setOf}
+use Rattle.routes.specs.Sums.{sumTo-zero}
+use Rattle.book.specs.Hall.{Tables, mostStops, mostWays, scale, upTo, entry, sized, right, imageOf}
+use Rattle.book.specs.Call.{Call, imageWrite, Answer, accepted, need, rule, reply, refusal, after, answer}
+use Rattle.book.specs.declared.Refusal.{Refusal}
+use Rattle.book.specs.declared.Refusal.the-variants.{Accepted, BadTables, ShortBuffer}
+use Rattle.book.specs.ByteLaws.{stored as put}
+use Rattle.book.specs.WriterLaws.{linkRecord, recordsTo, linksTo, trailer, records-none, records-more, records-row, links-more, links-row, links-grow, length-record, length-records, length-image, trailer-stored}
+use Rattle.book.specs.Filled.{right-true}
+use Rattle.hall.specs.Promise.{Done}
+use Rattle.images.specs.ImagePromise.{linkBit, linkBytes, links, writes, stored, Wrote}
+use Rattle.hall.specs.Calls.{on-tables}
+
+-- the bytes of a number's low half and of its high half are its four bytes
+pub half-bytes : (x : ℕ) →
+    (x % 65536 % 256 ≡ x % 256) × (x % 65536 / 256 % 256 ≡ x / 256 % 256) × (x / 65536 % 256 ≡ x / 256 / 256 % 256) ×
+    (x / 65536 / 256 % 256 ≡ x / 256 / 256 / 256 % 256)
+half-bytes x =
+    let high : x / 65536 ≡ x / 256 / 256 = sym (div-div-eq-div-mul x 256 256) in
+    (omega arith, middle x, ap (λ y. y % 256) high, ap (λ y. y / 256 % 256) high)
+  where
+    middle : (x : ℕ) → x % 65536 / 256 % 256 ≡ x / 256 % 256
+    middle x = let low : x % 65536 / 256 ≡ x / 256 % 256 = omega arith in omega arith
+
+-- a sum in two parts, and in rows
+sumTo-append : (a b : ℕ) (f : ℕ → ℕ) → sumTo (a + b) f ≡ sumTo a f + sumTo b (λ i. f (a + i))
+unfolding sumTo
+sumTo-append a zero f = rw add-zero (omega arith)
+sumTo-append a (suc b) f = let e : a + suc b ≡ suc (a + b) = omega arith in rw e (omega (arith, sumTo-append a b f))
+
+sumTo-rows : (m n : ℕ) (f : ℕ → ℕ) → sumTo (m * n) f ≡ sumTo m (λ s. sumTo n (λ t. f (s * n + t)))
+unfolding sumTo
+sumTo-rows zero n f = rw zero-mul
+sumTo-rows (suc m) n f = rw suc-mul (omega (arith, sumTo-append (m * n) n f, sumTo-rows m n f))
+
+-- the links of a cost table are those that the writer counts
+pub links-all : (n : ℕ) (cost : List ℕ) → length cost ≡ n * n → links cost ≡ linksTo n (entry n cost) n 0
+unfolding linksTo sumTo
+links-all n cost e = rw e (sumTo-rows n n (λ i. linkBit (getD cost i 0)) ∙ omega arith)
+
+module _ (n : ℕ) (cost : List ℕ) where
+  -- nothing written yet
+  pub wrote-none : (u v at : ℕ) (b : List ℕ) → at ≡ 4 * linksTo n (entry n cost) u v → Wrote n cost u v at u v at b b
+  wrote-none u v at b e = record { place = e; bytes = λ old l f. f }
+
+  -- and on
+  pub wrote-on : {u v at u₁ v₁ at₁ u₂ v₂ at₂ : ℕ} {a b c : List ℕ} → length b ≡ length a → Wrote n cost u v at u₁ v₁ at₁ a b → Wrote n cost u₁ v₁ at₁ u₂ v₂ at₂ b c →
+      Wrote n cost u v at u₂ v₂ at₂ a c
+  wrote-on e h k = record { place = k .place; bytes = λ old l f. k .bytes old (l ∙ sym e) (h .bytes old l f) }
+
+  -- the next row begins where one ends
+  pub wrote-row : (u at : ℕ) (b : List ℕ) → at ≡ 4 * linksTo n (entry n cost) u n → Wrote n cost u n at (u + 1) 0 at b b
+  wrote-row u at b e =
+      rw add-one (record {
+        place = rw (links-row n (entry n cost) u) e;
+        bytes = λ old l f. rw (records-row n (entry n cost) u) f;
+      })
+
+  module _ (u v at : ℕ) (e : at ≡ 4 * linksTo n (entry n cost) u v) where
+    -- its record has room
+    pub pair-fits : (room : ℕ) → 4 * linksTo n (entry n cost) n 0 ≤ room → u < n → v < n → at + 4 * linkBit (entry n cost u v) ≤ room
+    pair-fits room h k l = omega (arith, links-more n (entry n cost) u v, links-grow n (entry n cost) u (suc v) k l)
+
+    -- one more pair
+    pub wrote-pair : {r x : ℕ} {b b′ : List ℕ} → x ≡ entry n cost u v → at + 4 * linkBit x ≤ length b → r ≡ at + 4 * linkBit x →
+        b′ ≡ sets b at (linkBytes u v x) → Wrote n cost u v at u (v + 1) r b b′
+    wrote-pair {r} {x} {b} {b′} same h f g = rw (add-one, f, g, same) (record {
+      place = omega (arith, links-more n W u v);
+      bytes = λ old l k. rw (records-more n W u v, k) (new old l (rw same at h));
+    })
+      where
+        W : ℕ → ℕ → ℕ
+        W = entry n cost
+
+        new : (old : List ℕ) → length old ≡ length b → at + 4 * linkBit (W u v) ≤ length b →
+            sets (recordsTo n W u v ++ drop at old) at (linkRecord W u v) ≡ (recordsTo n W u v ++ linkRecord W u v) ++ drop (at + 4 * linkBit (W u v)) old
+        new old l h =
+            let size : length (linkRecord W u v) ≡ 4 * linkBit (W u v) = length-record n W u v in
+            rw size at (put (linkRecord W u v) (recordsTo n W u v) old at (omega (arith, length-records n W u v)) (omega arith))
+
+  module _ (c : ℕ) (square : length cost ≡ n * n) (count : c ≡ links cost) where
+    image-size : length (imageOf n cost) ≡ 4 * c + 8
+    image-size = omega (arith, length-image n cost, links-all n cost square)
+
+    -- too short a buffer
+    pub store-short : (b : List ℕ) → length b < 4 * c + 8 → writes ShortBuffer 0 b ≡ stored n cost b
+    store-short b h = rw (lt-leb (length (imageOf n cost)) (length b) (omega (arith, image-size)))
+
+    -- all records, and the trailer behind them
+    pub store-whole : {at : ℕ} {b rows all : List ℕ} → 4 * c + 8 ≤ length b → Wrote n cost 0 0 0 n 0 at b rows →
+        all ≡ sets rows at (trailer n c) → writes Accepted (4 * c + 8) all ≡ stored n cost b
+    store-whole {at} {b} {rows} {all} h w f =
+        let none : b ≡ recordsTo n (entry n cost) 0 0 ++ drop 0 b = rw (records-none n (entry n cost)) in
+        let total : c ≡ linksTo n (entry n cost) n 0 = count ∙ links-all n cost square in
+        let place : at ≡ 4 * c = omega (arith, w .place) in
+        let end : at + 8 ≡ 4 * c + 8 = omega arith in
+        rw (le-leb (length (imageOf n cost)) (length b) (omega (arith, image-size)), image-size)
+        (ap (writes Accepted (4 * c + 8)) (f ∙ rw (w .bytes b refl none) (rw end at (trailer-stored n cost b c at total place (omega arith)))))
+
+-- the answer of an image write
+write-reply : (n : ℕ) (r : Refusal) (cost buffer : List ℕ) →
+    let bytes : List ℕ = cond (accepted r) (imageOf n cost) [] in
+    reply n r (rule n (imageWrite buffer) cost) ≡ writes r (length bytes) (bytes ++ drop (length bytes) buffer)
+unfolding reply rule setOf
+write-reply n r cost buffer =
+    let bytes : List ℕ = cond (accepted r) (imageOf n cost) [] in
+    λ i. record {
+      refusal = r;
+      touched = sumTo-zero n {f = λ s. cond (accepted r && false) (2 ^ s) 0} (λ s l. rw and-false) i;
+      rows = sumTo-zero n {f = λ s. cond (accepted r && false) 1 0} (λ s l. rw and-false) i;
+      length = length bytes;
+      buffer = bytes ++ drop (length bytes) buffer;
+    }
+
+module _ (n : ℕ) (t : Tables) (buffer : List ℕ) where
+  abbrev call : Call
+  call = record { n = n; ask = imageWrite buffer }
+
+  -- refused, nothing differs
+  pub write-refused : (r : Refusal) → refusal call t ≡ r → accepted r ≡ false → Done call t t (writes r 0 buffer)
+  unfolding after answer
+  write-refused r e f = record { left = rw (e, f); answered = rw e (sym (write-reply n r (t .cost) buffer ∙ rw f)) }
+
+  module _ (some : upTo mostStops n ≡ true) (fits : sized n t ≡ true) where
+    -- the tests behind the lengths
+    pub write-refusal : refusal call t ≡ need (right scale mostWays n t) BadTables (need (leb (length (imageOf n (t .cost))) (length buffer)) ShortBuffer Accepted)
+    unfolding rule
+    write-refusal = on-tables call t some fits
+
+    -- right tables: the image is stored where it fits
+    pub write-stored : {a : Answer} → right scale mostWays n t ≡ true → a ≡ stored n (t .cost) buffer → Done call t t a
+    unfolding after answer rule
+    write-stored {a} e f = rw f (go (leb (length (imageOf n (t .cost))) (length buffer)) refl)
+      where
+        size : ℕ
+        size = length (imageOf n (t .cost))
+
+        go : (b : Bool) → leb size (length buffer) ≡ b → Done call t t (cond b (writes Accepted size (imageOf n (t .cost) ++ drop size buffer)) (writes ShortBuffer 0 buffer))
+        go true h =
+            let ok : refusal call t ≡ Accepted = write-refusal ∙ rw (e, h) in
+            record { left = rw ok (sym (right-true scale mostWays n t e .2)); answered = rw ok (sym (write-reply n Accepted (t .cost) buffer)) }
+        go false h = write-refused ShortBuffer (write-refusal ∙ rw (e, h)) refl

@@ -1,0 +1,5 @@
+// Images: the links of a hall as bytes, checked, written and read.
+mod fields;
+pub mod image_check;
+pub mod image_read;
+pub mod image_write;
