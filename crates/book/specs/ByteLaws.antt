@@ -13,24 +13,7 @@ use Rattle.book.specs.Hall.{lowFirst, field}
 abbrev pub Bytes : List ℕ → Type 0
 Bytes l = (i : ℕ) → getD l i 0 < 256
 
--- no byte, one more in front, and bytes behind bytes
-pub bytes-nil : Bytes []
-bytes-nil i = omega arith
-
-pub bytes-cons : (x : ℕ) (l : List ℕ) → x < 256 → Bytes l → Bytes (x ∷ l)
-bytes-cons x l h b zero = h
-bytes-cons x l h b (suc i) = b i
-
-pub bytes-append : (l m : List ℕ) → Bytes l → Bytes m → Bytes (l ++ m)
-bytes-append [] m a b = b
-bytes-append (x ∷ l) m a b = bytes-cons x (l ++ m) (a 0) (bytes-append l m (λ i. a (suc i)) b)
-
--- a number in k bytes is k bytes
-pub bytes-lowFirst : (k x : ℕ) → Bytes (lowFirst k x)
-unfolding lowFirst
-bytes-lowFirst zero x = bytes-nil
-bytes-lowFirst (suc k) x = bytes-cons (x % 256) (lowFirst k (x / 256)) (omega arith) (bytes-lowFirst k (x / 256))
-
+-- a number in k bytes is k long
 pub length-lowFirst : (k x : ℕ) → length (lowFirst k x) ≡ k
 unfolding lowFirst
 length-lowFirst zero x = refl

@@ -1,6 +1,6 @@
 -- The writer of an image: the records and the number of links of the pairs that it has passed, what one more pair stores, and
 -- the length and the bytes of the whole. Assumes nothing.
-use Prim.Native.Nat.{ℕ, zero, suc, _+_, _*_, _/_, _%_, _<_, _≤_}
+use Prim.Native.Nat.{ℕ, zero, suc, _+_, _*_, _/_, _<_, _≤_}
 use mathlib.Core.Path.{_≡_, refl}
 use mathlib.Core.Bool.{Bool, true, false, cond}
 use mathlib.Core.List.{List, [], _∷_, _++_, append-nil, append-assoc}
@@ -8,11 +8,11 @@ use native.Mathlib.Nat.{mul-one, le-refl, le-of-eq, mul-le-mul}
 use native.Mathlib.Omega.{arith}
 use lib.ListN.{length, drop, length-append}
 use lib.Seq.{sets}
-use borrow.Author.Tests.{lt-ltb, le-ltb}
+use borrow.Author.Tests.{le-ltb}
 use Rattle.routes.specs.Route.{Costs, sumTo, joinTo, link}
 use Rattle.routes.specs.Sums.{below-suc, sumTo-bound}
-use Rattle.book.specs.Hall.{largestCost, entry, lowFirst, imageOf}
-use Rattle.book.specs.ByteLaws.{Bytes, bytes-nil, bytes-cons, bytes-append, bytes-lowFirst, stored}
+use Rattle.book.specs.Hall.{entry, lowFirst, imageOf}
+use Rattle.book.specs.ByteLaws.{stored}
 
 -- the record of the link u to v, none where there is no link
 abbrev pub linkRecord : Costs → ℕ → ℕ → List ℕ
@@ -105,14 +105,6 @@ module _ (n : ℕ) (W : Costs) where
       go true = refl
       go false = refl
 
-  -- and they are bytes
-  pub bytes-record : (u v : ℕ) → u < 256 → v < 256 → Bytes (linkRecord W u v)
-  bytes-record u v a b = go (link W u v)
-    where
-      go : (b : Bool) → Bytes (cond b (u ∷ v ∷ lowFirst 2 (W u v)) [])
-      go true = bytes-cons u (v ∷ lowFirst 2 (W u v)) a (bytes-cons v (lowFirst 2 (W u v)) b (bytes-lowFirst 2 (W u v)))
-      go false = bytes-nil
-
   -- so four times as many bytes as links are written
   pub length-records : (u v : ℕ) → length (recordsTo n W u v) ≡ 4 * linksTo n W u v
   length-records = walk n
@@ -120,27 +112,11 @@ module _ (n : ℕ) (W : Costs) where
       (λ u v h. rw (records-more u v, links-more u v) (simp length-append (omega (arith, h, length-record u v))))
       (λ u h. rw (records-row u, links-row u) h)
 
-  pub bytes-records : n ≤ 256 → (u v : ℕ) → Place n u v → Bytes (recordsTo n W u v)
-  bytes-records small = walk n {P = λ u v. Place n u v → Bytes (recordsTo n W u v)}
-      (λ p. rw records-none bytes-nil)
-      (λ u v h p. rw (records-more u v) (bytes-append (recordsTo n W u v) (linkRecord W u v) (h (omega arith)) (bytes-record u v (omega arith) (omega arith))))
-      (λ u h p. rw (records-row u) (h (omega arith)))
-
-  -- a writer's turn, at a pair without a link and at a link
+  -- a writer's turn at a pair without a link
   pub pair-skipped : (u v : ℕ) → W u v ≡ 0 → (recordsTo n W u (suc v) ≡ recordsTo n W u v) × (linksTo n W u (suc v) ≡ linksTo n W u v)
   pair-skipped u v e =
       let none : link W u v ≡ false = le-ltb 0 (W u v) (omega arith) in
       (rw (records-more u v, none) (append-nil _), rw (links-more u v, none) (omega arith))
-
-  pub record-stored : (b : List ℕ) (u v at : ℕ) → 0 < W u v → W u v ≤ largestCost → at ≡ 4 * linksTo n W u v → at + 4 ≤ length b →
-      (sets (recordsTo n W u v ++ drop at b) at (u ∷ v ∷ W u v % 256 ∷ W u v / 256 ∷ []) ≡ recordsTo n W u (suc v) ++ drop (at + 4) b) ×
-      (linksTo n W u (suc v) ≡ linksTo n W u v + 1)
-  unfolding lowFirst
-  record-stored b u v at e f g h =
-      let there : link W u v ≡ true = lt-ltb 0 (W u v) e in
-      let high : W u v / 256 % 256 ≡ W u v / 256 = omega arith in
-      let size : length (recordsTo n W u v) ≡ at = omega (arith, length-records u v) in
-      (rw (records-more u v, there, high) (stored (u ∷ v ∷ W u v % 256 ∷ W u v / 256 ∷ []) (recordsTo n W u v) b at size h), rw (links-more u v, there))
 
 -- the image: all records and the trailer
 pub image-parts : (n : ℕ) (cost : List ℕ) → imageOf n cost ≡ recordsTo n (entry n cost) n 0 ++ trailer n (linksTo n (entry n cost) n 0)
@@ -155,19 +131,6 @@ image-parts n cost =
 pub length-image : (n : ℕ) (cost : List ℕ) → length (imageOf n cost) ≡ 4 * linksTo n (entry n cost) n 0 + 8
 unfolding lowFirst
 length-image n cost = rw image-parts (simp length-append (omega (arith, length-records n (entry n cost) n 0)))
-
--- an image is bytes, its trailer first
-pub bytes-trailer : (n c : ℕ) → n < 256 → Bytes (trailer n c)
-bytes-trailer n c h =
-    let numbers : List ℕ = lowFirst 2 c ++ lowFirst 4 (4 * c) in
-    bytes-cons n (1 ∷ numbers) h
-    (bytes-cons 1 numbers (omega arith) (bytes-append (lowFirst 2 c) (lowFirst 4 (4 * c)) (bytes-lowFirst 2 c) (bytes-lowFirst 4 (4 * c))))
-
-pub bytes-image : (n : ℕ) (cost : List ℕ) → n ≤ 64 → Bytes (imageOf n cost)
-bytes-image n cost small =
-    let W : Costs = entry n cost in
-    rw image-parts
-    (bytes-append (recordsTo n W n 0) (trailer n (linksTo n W n 0)) (bytes-records n W (omega arith) n 0 (omega arith)) (bytes-trailer n (linksTo n W n 0) (omega arith)))
 
 -- the trailer, stored behind all records
 pub trailer-stored : (n : ℕ) (cost b : List ℕ) (c at : ℕ) → c ≡ linksTo n (entry n cost) n 0 → at ≡ 4 * c → at + 8 ≤ length b →

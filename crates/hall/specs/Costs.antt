@@ -1,6 +1,6 @@
 -- Tests of whole tables, place by place, and the tests of a loop. Assumes nothing.
 use Prim.Native.Nat.{ℕ, zero, suc, _+_, _*_, _<_, _≤_}
-use mathlib.Core.Path.{_≡_, refl, sym, _∙_, ap, ap₂}
+use mathlib.Core.Path.{_≡_, refl, sym, _∙_, ap}
 use mathlib.Core.Bool.{Bool, true, false, cond, not, _&&_, _||_, and-assoc, and-true, and-false, and-eq-true-iff}
 use mathlib.Core.List.{List}
 use native.Mathlib.Nat.{add-zero, add-suc, zero-mul, suc-mul}

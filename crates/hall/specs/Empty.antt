@@ -1,23 +1,22 @@
 -- The tables of a hall without links. Assumes nothing.
 use Prim.Native.Nat.{ℕ, _+_, _*_, _/_, _<_}
 use mathlib.Core.Path.{_≡_, refl, sym, _∙_, ap}
-use mathlib.Core.Logic.{_≢_}
-use mathlib.Core.Bool.{Bool, true, false, cond, _&&_, _||_, and-true}
+use mathlib.Core.Bool.{Bool, true, false, cond, _||_, and-true}
 use mathlib.Core.List.{List}
 use native.Mathlib.Nat.{mul-zero, div-zero}
 use native.Mathlib.Omega.{arith}
 use lib.Arith.{digits-lt}
-use lib.Dec.{eqb, ltb}
+use lib.Dec.{eqb}
 use lib.ListN.{length, replicate, length-replicate, getD-replicate}
-use borrow.Author.Tests.{eqb-true, eqb-false, eq-eqb, ne-eqb, ltb-true, lt-ltb}
-use Rattle.routes.specs.Route.{Costs, mark, link, sumTo, leastTime, ways, through, portion, share, score}
+use borrow.Author.Tests.{eqb-true, eq-eqb, ne-eqb, ltb-true, lt-ltb}
+use Rattle.routes.specs.Route.{Costs, mark, leastTime, ways, through, portion, share, score}
 use Rattle.routes.specs.Equations.{Times, Within}
 use Rattle.routes.specs.Bits.{split}
 use Rattle.routes.specs.Sums.{cond-true, cond-false, sumTo-zero}
 use Rattle.routes.specs.Rows.{listTo-of}
 use Rattle.routes.specs.Times.{times, ways-source, ways-reached}
 use Rattle.routes.specs.Unique.{times-unique}
-use Rattle.book.specs.Hall.{Tables, scale, entry, filled}
+use Rattle.book.specs.Hall.{scale, entry, filled}
 use Rattle.book.specs.TableLaws.{table-of}
 use Rattle.hall.specs.Promise.{tables, Blank, Diagonal}
 

@@ -2,7 +2,7 @@
 use Prim.Native.Nat.{ℕ, suc, _+_, _-_, _*_, _/_, _^_, _<_, _≤_}
 use mathlib.Core.Path.{_≡_, refl, sym, _∙_, ap}
 use mathlib.Core.Logic.{_≢_}
-use mathlib.Core.Bool.{Bool, true, false, cond, not, _&&_, _||_, and-true, and-false, or-true, and-eq-true-iff}
+use mathlib.Core.Bool.{Bool, true, false, not, _&&_, _||_, and-true, and-false, or-true, and-eq-true-iff}
 use mathlib.Core.List.{List}
 use native.Mathlib.Nat.{suc-mul}
 use native.Mathlib.Omega.{arith}
@@ -13,14 +13,14 @@ use lib.Dec.{eqb, ltb}
 use lib.ListN.{length, take, drop, length-take, length-drop}
 use lib.Pow.{pow-add, pow-pos}
 use borrow.Author.Tests.{eqb-true, eq-eqb, ltb-true, lt-ltb}
-use Rattle.routes.specs.Route.{Costs, listTo, allTo, has, leastTime}
+use Rattle.routes.specs.Route.{Costs, listTo, allTo, has}
 use Rattle.routes.specs.Sums.{all-true, all-of, all-cong}
 use Rattle.routes.specs.Bits.{split, has-none, has-not, member-lt, Popped, popped, Rewriting, rewriting-starts, rewriting-goes, rewriting-ends}
 use Rattle.routes.specs.Booleans.{bool-iff}
 use Rattle.routes.specs.Rows.{length-listTo}
 use Rattle.row.specs.Promise.{isRow, Filled}
 use Rattle.book.specs.Hall.{mostWays, scale}
-use Rattle.hall.specs.Promise.{Starts, part, Parts, parts, rowOf, free, Square, Renewed, Redone}
+use Rattle.hall.specs.Promise.{Starts, part, parts, rowOf, free, Square, Renewed, Redone}
 use Rattle.hall.specs.Parts.{back, part-here, part-other}
 
 -- a part that is lent has n entries

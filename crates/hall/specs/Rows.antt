@@ -1,17 +1,16 @@
 -- Rows over masks and over costs: what row work needs, and when its rows are those of the definitions. Assumes nothing.
 use Prim.Native.Nat.{ℕ, suc, _*_, _<_, _≤_, min}
-use mathlib.Core.Path.{_≡_, refl, sym, _∙_, ap, ap₂}
-use mathlib.Core.Bool.{Bool, true, false, cond, not, _&&_, _||_, and-true, and-eq-true-iff}
+use mathlib.Core.Path.{_≡_, refl, sym, _∙_, ap}
+use mathlib.Core.Bool.{Bool, true, false, cond, _&&_, and-true, and-eq-true-iff}
 use mathlib.Core.List.{List}
 use native.Mathlib.Nat.{mul-le-mul-right}
 use native.Mathlib.Omega.{arith}
 use lib.Dec.{eqb, ltb, leb}
 use lib.ListN.{length, getD}
-use borrow.Author.Tests.{eqb-true, ltb-true, ltb-false, lt-ltb, le-ltb, leb-true}
-use Rattle.routes.specs.Route.{Costs, mark, sumTo, listTo, allTo, has, leastTime, ways, portion, share}
-use Rattle.routes.specs.Equations.{Within, cappedWays, openShare}
-use Rattle.routes.specs.Bits.{split}
-use Rattle.routes.specs.Sums.{cond-true, cond-false, sumTo-cong, all-true, all-cong}
+use borrow.Author.Tests.{ltb-true, ltb-false, lt-ltb, le-ltb, leb-true}
+use Rattle.routes.specs.Route.{Costs, mark, listTo, has, ways, portion, share}
+use Rattle.routes.specs.Equations.{cappedWays, openShare}
+use Rattle.routes.specs.Sums.{cond-false, sumTo-cong, all-true, all-cong}
 use Rattle.routes.specs.Rows.{length-listTo, getD-listTo, listTo-of}
 use Rattle.routes.specs.Flows.{Flows, flows}
 use Rattle.routes.specs.Transfer.{SameRow, transfer}
@@ -19,7 +18,7 @@ use Rattle.row.specs.Promise.{masked, Task, AllLinks, UsefulLinks}
 use Rattle.book.specs.Hall.{largestCost, mostWays, scale, entry, validCosts}
 use Rattle.book.specs.TableLaws.{valid-costs}
 use Rattle.book.specs.CallLaws.{whole}
-use Rattle.hall.specs.Promise.{Job, Parts, rowOf, free}
+use Rattle.hall.specs.Promise.{Job, rowOf, free}
 
 -- a source's task
 pub task : {n : ℕ} {cost out : List ℕ} → Job n cost out → (s : ℕ) → s < n → Task n s cost out scale mostWays mark

@@ -1,28 +1,28 @@
 -- The tests of the inner audit pass exactly on the tables of a hall. Assumes nothing.
-use Prim.Native.Nat.{ℕ, suc, _+_, _*_, _<_, _≤_, min}
-use mathlib.Core.Path.{_≡_, refl, sym, _∙_, ap, subst}
+use Prim.Native.Nat.{ℕ, _+_, _*_, _<_, _≤_}
+use mathlib.Core.Path.{_≡_, sym, _∙_, ap, subst}
 use mathlib.Core.Bool.{Bool, true, false, not, _&&_, and-eq-true-iff}
 use mathlib.Core.List.{List}
 use native.Mathlib.Omega.{arith}
 use lib.Dec.{eqb, ltb, leb}
 use lib.ListN.{length, getD}
 use borrow.Author.Tests.{eqb-true, eq-eqb, leb-true, le-leb, ltb-true, ltb-false, lt-ltb, le-ltb, not-true}
-use Rattle.routes.specs.Route.{Costs, sumTo, listTo, allTo, same, leastTime, ways, share, score}
-use Rattle.routes.specs.Equations.{cappedWays, openShare}
-use Rattle.routes.specs.Booleans.{bool-iff, both}
+use Rattle.routes.specs.Route.{Costs, sumTo, allTo, same, leastTime, ways, share, score}
+use Rattle.routes.specs.Equations.{cappedWays}
+use Rattle.routes.specs.Booleans.{bool-iff}
 use Rattle.routes.specs.Bits.{split}
 use Rattle.routes.specs.Lists.{same-refl, same-true}
-use Rattle.routes.specs.Sums.{all-true, all-of, is-false, sumTo-cong}
+use Rattle.routes.specs.Sums.{all-true, all-of, sumTo-cong}
 use Rattle.routes.specs.Rows.{getD-listTo}
 use Rattle.row.specs.Promise.{masked, UsefulLinks, isRow}
-use Rattle.book.specs.Hall.{Tables, mostWays, scale, entry, filled, sized, validCosts, uncrowded, right}
+use Rattle.book.specs.Hall.{Tables, mostWays, scale, entry, filled, validCosts, uncrowded, right}
 use Rattle.book.specs.TableLaws.{entry-table}
 use Rattle.book.specs.Filled.{right-filled, right-true}
 use Rattle.hall.specs.Promise.{tables, part, Parts, parts, rowOf, free, Shares, noShortcut, noneAbove, rowsPass, scoresPass}
 use Rattle.hall.specs.Parts.{entry-part}
 use Rattle.hall.specs.Calls.{Lengths}
 use Rattle.hall.specs.Costs.{all-flat}
-use Rattle.hall.specs.Rows.{same-rowOf, free-ways}
+use Rattle.hall.specs.Rows.{same-rowOf}
 use Rattle.hall.specs.Worked.{Worked, worked-of, worked-parts, uncrowded-rows, clear-rows, entry-share, worked-scores, worked-shares}
 use Rattle.hall.specs.Useful.{useful-all, all-useful, all-cheap}
 

@@ -1,16 +1,16 @@
 -- Work out, from its tests and rows to what it promises. Assumes nothing.
-use Prim.Native.Nat.{ℕ, _*_, _≤_}
-use mathlib.Core.Path.{_≡_, refl, sym, _∙_, ap, subst}
-use mathlib.Core.Bool.{Bool, true, false, cond}
+use Prim.Native.Nat.{ℕ, _*_}
+use mathlib.Core.Path.{_≡_, refl, sym, _∙_, subst}
+use mathlib.Core.Bool.{Bool, true, false}
 use mathlib.Core.List.{List}
 use lib.ListN.{length}
 use borrow.Author.Tests.{eq-eqb}
 use Rattle.routes.specs.Sums.{cond-true, cond-false}
-use Rattle.book.specs.Hall.{Tables, mostStops, mostWays, scale, upTo, filled, sized, validCosts, uncrowded}
+use Rattle.book.specs.Hall.{Tables, mostStops, upTo, filled, sized, validCosts}
 use Rattle.book.specs.Call.{Call, workOut, need, waysTest, rule, refusal}
 use Rattle.book.specs.declared.Refusal.the-variants.{Accepted, BadCost, TooManyWays}
 use Rattle.hall.specs.Promise.{tables, says, Done, Attempted, Shares, Summed}
-use Rattle.hall.specs.Calls.{stops, Lengths, lengths, on-tables, refused, passed}
+use Rattle.hall.specs.Calls.{stops, lengths, on-tables, refused, passed}
 use Rattle.hall.specs.Worked.{worked-scores, worked-shares}
 
 module _ (n : ℕ) (cost time ways share score : List ℕ) (some : upTo mostStops n ≡ true) (fits : sized n (tables cost time ways share score) ≡ true) where

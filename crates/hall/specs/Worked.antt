@@ -1,22 +1,21 @@
 -- Tables whose parts are the rows of a hall are its tables, and back; their scores. Assumes nothing.
 use Prim.Native.Nat.{ℕ, _*_, _<_, _≤_}
 use mathlib.Core.Path.{_≡_, refl, sym, _∙_, ap}
-use mathlib.Core.Bool.{Bool, true, false, not, _||_}
+use mathlib.Core.Bool.{Bool, true, not}
 use mathlib.Core.List.{List}
 use native.Mathlib.Omega.{arith}
-use lib.Dec.{ltb, leb}
-use lib.ListN.{length, getD}
+use lib.Dec.{ltb}
+use lib.ListN.{length}
 use lib.Seq.{ext-getD}
 use borrow.Author.Tests.{lt-ltb}
-use Rattle.routes.specs.Route.{Costs, sumTo, listTo, allTo, has, leastTime, ways, share, score}
+use Rattle.routes.specs.Route.{allTo, has, leastTime, ways, share, score}
 use Rattle.routes.specs.Sums.{sumTo-cong, all-true, all-cong}
 use Rattle.routes.specs.Rows.{listTo-of}
-use Rattle.routes.specs.Flows.{Flows}
 use Rattle.routes.specs.Bounds.{open-limit}
 use Rattle.row.specs.Promise.{masked, AllLinks}
 use Rattle.book.specs.Hall.{mostWays, scale, entry, filled, validCosts, uncrowded}
 use Rattle.book.specs.TableLaws.{length-table, entry-table}
-use Rattle.hall.specs.Promise.{Parts, parts, part, rowOf, free, Square, Shares, Summed, Copied, Redone}
+use Rattle.hall.specs.Promise.{parts, part, rowOf, free, Square, Shares, Summed, Copied, Redone}
 use Rattle.hall.specs.Parts.{table-of-parts, part-table}
 use Rattle.hall.specs.Rows.{listTo-cong, same-rowOf, same-free, free-ways, free-share, hall-flows, all-rows}
 

@@ -3,7 +3,7 @@ use super::limits::Hall;
 use super::places;
 use super::sound;
 use book::Refusal;
-ghost use Rattle.book.specs.Call.{Call, audit};
+ghost use Rattle.book.specs.Call.{audit};
 ghost use Rattle.hall.specs.Promise.{tables, says, Done};
 
 pub fn audit(

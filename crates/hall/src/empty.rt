@@ -5,8 +5,7 @@ use book::Refusal;
 ghost use mathlib.Core.Path.{_≡_};
 ghost use Prim.Native.Nat.{_*_, _≤_};
 ghost use lib.ListN.{length, replicate};
-ghost use Rattle.routes.specs.Route.{mark};
-ghost use Rattle.book.specs.Call.{Call, emptyHall};
+ghost use Rattle.book.specs.Call.{emptyHall};
 ghost use Rattle.hall.specs.Promise.{tables, says, Done, Blank, Diagonal};
 
 // No link, no time, no way and no share.

@@ -12,7 +12,7 @@ ghost use mathlib.Core.Bool.{true};
 ghost use Prim.Native.Nat.{_*_, _<_, _≤_};
 ghost use lib.ListN.{length};
 ghost use Rattle.book.specs.Hall.{validCosts};
-ghost use Rattle.book.specs.Call.{Call, workOut};
+ghost use Rattle.book.specs.Call.{workOut};
 ghost use Rattle.hall.specs.Promise.{tables, says, Done, Square, Attempted};
 
 // Works out every row over valid costs. Where a pair has too many ways, it says false and the tables are as they were.

@@ -13,7 +13,7 @@ use images::image_read::image_read;
 use images::image_write::image_write;
 ghost use mathlib.Core.Path.{_≡_};
 ghost use mathlib.Core.List.{[]};
-ghost use Rattle.book.specs.Call.{Call, emptyHall, workOut, audit, edit, imageWrite, imageRead, number, imageCheck};
+ghost use Rattle.book.specs.Call.{emptyHall, workOut, audit, edit, imageWrite, imageRead, number, imageCheck};
 ghost use Rattle.book.specs.declared.Kind.the-variants.{Insert, Cheapen, Delete};
 ghost use Rattle.hall.specs.Promise.{tables};
 ghost use Rattle.host.specs.Promise.{Handed};

@@ -2,7 +2,7 @@
 use Prim.Native.Nat.{ℕ, zero, suc, _+_, _*_, _^_, _<_, _≤_}
 use mathlib.Core.Path.{_≡_, refl, sym, _∙_, ap, subst⁻¹}
 use mathlib.Core.Bool.{Bool, true, false, cond, _&&_, and-eq-true-iff}
-use mathlib.Core.List.{List, [], _∷_, _++_}
+use mathlib.Core.List.{List, []}
 use native.Mathlib.Omega.{arith}
 use lib.Dec.{eqb, leb, lit<}
 use lib.ListN.{length, getD, take, drop, replicate, drop-of-length-le, length-append}
@@ -18,7 +18,7 @@ use Rattle.book.specs.Steps.{Held, held-none, tablesOf, after-book, answer-book
 use Rattle.book.specs.declared.Kind.{Kind}
 use Rattle.book.specs.declared.Refusal.{Refusal}
 use Rattle.book.specs.declared.Refusal.the-variants.{Accepted, BadSize, BadLength, BadTables, BadStop, BadCost, LinkPresent, LinkAbsent, NotCheaper, BadImage, ShortBuffer, TooManyWays}
-use Rattle.hall.specs.Promise.{tables, Done}
+use Rattle.hall.specs.Promise.{Done}
 use Rattle.listing.specs.declared.Line.{Line}
 use Rattle.listing.specs.declared.Line.the-variants.{Edit, Unread}
 use Rattle.listing.specs.Text.{bytes, parts, lines, words, lineOf, hallLine, editLine, stopLine, said, next, report}

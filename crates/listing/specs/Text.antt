@@ -2,13 +2,13 @@
 use Prim.Native.Nat.{ℕ, zero, suc, _+_, _*_, _-_, _/_, _%_}
 use Prim.Native.Char.{code}
 use Prim.Native.String.{String, [] as end, _∷_ as _then_}
-use mathlib.Core.Bool.{Bool, true, false, cond, _&&_}
+use mathlib.Core.Bool.{Bool, true, cond, _&&_}
 use mathlib.Core.List.{List, [], _∷_, _++_}
 use lib.Dec.{eqb, ltb, leb}
 use lib.ListN.{length, replicate}
 use Rattle.routes.specs.Route.{joinTo, same, score}
 use Rattle.book.specs.Hall.{mostStops, scale, upTo, entry}
-use Rattle.book.specs.Call.{Call, edit, number, Answer}
+use Rattle.book.specs.Call.{edit, number, Answer}
 use Rattle.book.specs.Book.{Book, bookAfter, bookAnswer}
 use Rattle.book.specs.declared.Kind.the-variants.{Insert, Cheapen, Delete}
 use Rattle.listing.specs.declared.Line.{Line}

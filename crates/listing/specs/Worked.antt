@@ -1,8 +1,8 @@
 -- Document 01's example of hallscore, and lines at the edge of its rules, computed. Assumes nothing.
-use Prim.Native.Nat.{ℕ, _+_, _*_, _-_, _/_, _%_, _^_}
+use Prim.Native.Nat.{_+_}
 use Prim.Native.String.{String}
 use mathlib.Core.Path.{_≡_, refl}
-use mathlib.Core.List.{List, [], _∷_, map}
+use mathlib.Core.List.{[], _∷_, map}
 use lib.ListN.{replicate}
 use Rattle.routes.specs.Route.{sumTo, joinTo, listTo, allTo, same, setOf, count, visits, uses, time, least, extend, hops, routes, leastTime, quickest, ways, through, portion, share, used, score}
 use Rattle.book.specs.Hall.{validCosts, uncrowded, touched}

@@ -2,7 +2,7 @@
 use crate::Line;
 use crate::Number;
 use book::Kind;
-ghost use Prim.Native.Nat.{_+_, _≤_};
+ghost use Prim.Native.Nat.{_+_};
 ghost use mathlib.Core.Path.{_≡_};
 ghost use mathlib.Core.List.{[], _∷_};
 ghost use Rattle.routes.specs.Route.{same as Route·same};

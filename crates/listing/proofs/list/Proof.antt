@@ -1,16 +1,12 @@
-use Prim.Native.Nat.{ℕ, _+_, _<_, _≤_}
-use mathlib.Core.Path.{_≡_, refl, sym, _∙_, ap}
-use mathlib.Core.Bool.{true, false, cond}
-use mathlib.Core.List.{List, _++_}
+use mathlib.Core.Path.{_≡_, sym, _∙_, ap}
+use mathlib.Core.Bool.{true, false}
 use native.Mathlib.Omega.{arith}
-use lib.ListN.{length, take, drop}
+use lib.ListN.{take}
 use lib.Seq.{length-take-le}
 use borrow.Author.Tests.{not-true, not-false}
 use Rattle.book.specs.Hall.{mostStops, upTo}
-use Rattle.listing.specs.Text.{bytes, lines, words, hallOf, hallLine, report, listing}
-use Rattle.listing.specs.Reading.{cutAt, cut-within}
-use Rattle.listing.specs.Printing.{Printed}
-use Rattle.listing.specs.Running.{noLinks}
+use Rattle.listing.specs.Text.{bytes, words, hallOf, listing}
+use Rattle.listing.specs.Reading.{cut-within}
 use Rattle.listing.specs.Whole.{wrote-none, wrote-printed, too-long, by-hall}
 use borrow.Author.Needs.{needs}
 use Rattle.listing.proofs.list.Statement.{statement}

@@ -1,6 +1,5 @@
 -- `rows::everyone`: the lowest n bits.
 use borrow.Author.Needs.{needs}
-use native.Mathlib.Omega.{arith}
 use Rattle.hall.specs.Renewed.{has-everyone}
 use Rattle.hall.proofs.rows.everyone.Statement.{statement}
 use Rattle.hall.proofs.rows.everyone.Tie as tie

@@ -1,14 +1,12 @@
-use Prim.Native.Nat.{ℕ, suc, _+_, _-_, _/_, _%_, _^_, _<_, _≤_}
-use mathlib.Core.Path.{_≡_, refl, sym, _∙_, ap}
-use mathlib.Core.List.{List, [], _∷_, _++_}
+use Prim.Native.Nat.{ℕ, _+_, _-_, _/_, _%_, _^_, _<_, _≤_}
+use mathlib.Core.Path.{_≡_, refl, _∙_, ap}
+use mathlib.Core.List.{[], _∷_}
 use native.Mathlib.Omega.{arith}
-use lib.ListN.{length, set, length-set, length-append}
-use lib.Seq.{sets, length-sets}
+use lib.ListN.{length, length-set, length-append}
 use borrow.Fn.Kinds.{In}
 use borrow.Fn.PlainCycle.{Measures, is, falls, and}
 use Rattle.listing.specs.Text.{decimal as text}
-use Rattle.listing.specs.Printing.{Printed, then, decimal-small, decimal-large}
-use borrow.Author.Needs.{needs}
+use Rattle.listing.specs.Printing.{then, decimal-small, decimal-large}
 use Rattle.listing.proofs.print.decimal.Reads as decimal
 use Rattle.listing.proofs.print.decimal.Kinds as decimal-kinds
 use Rattle.listing.proofs.print.+decimal.Lts-decimal as decimal-lts

@@ -1,12 +1,9 @@
-use borrow.Author.Needs.{needs}
-use Prim.Native.Nat.{ℕ, suc, _+_, _-_, _≤_}
+use Prim.Native.Nat.{suc, _+_, _-_, _≤_}
 use mathlib.Core.Path.{_≡_, refl, sym, _∙_, ap}
-use mathlib.Core.List.{List, [], _∷_}
 use native.Mathlib.Numerals.{add-one}
 use native.Mathlib.Omega.{arith}
 use lib.ListN.{length, getD, set, drop, length-set, drop-of-length-le}
 use lib.Seq.{sets, drop-cons}
-use Rattle.listing.specs.Printing.{Printed}
 use Rattle.listing.proofs.print.put.Statement.{statement}
 use Rattle.listing.proofs.print.put.Tie as tie
 use Rattle.listing.proofs.print.put.Reads as reads

@@ -1,10 +1,6 @@
-use Prim.Native.Nat.{ℕ, _≤_}
-use mathlib.Core.Path.{_≡_, refl, sym, _∙_, ap}
 use native.Mathlib.Omega.{arith}
-use lib.ListN.{length}
 use Rattle.listing.specs.declared.Line.the-variants.{Edit}
-use Rattle.listing.specs.Text.{said, editLine}
-use Rattle.listing.specs.Running.{Stepped, sized-standing, right-standing, edit-standing, short-line}
+use Rattle.listing.specs.Running.{sized-standing, right-standing, edit-standing, short-line}
 use borrow.Author.Needs.{needs}
 use Rattle.listing.proofs.run.edit.Statement.{statement}
 use Rattle.listing.proofs.run.edit.Tie as tie

@@ -1,4 +1,3 @@
-use mathlib.Core.Path.{_≡_, refl, sym, _∙_, ap, subst}
 use Rattle.listing.specs.Running.{standing-none}
 use borrow.Author.Needs.{needs}
 use Rattle.listing.proofs.run.start.Statement.{statement}

@@ -1,10 +1,8 @@
-use Prim.Native.Nat.{ℕ}
-use mathlib.Core.Path.{_≡_, refl, sym, _∙_, ap}
+use mathlib.Core.Path.{sym, _∙_}
 use native.Mathlib.Omega.{arith}
-use lib.ListN.{length}
 use Rattle.listing.specs.declared.Line.the-variants.{Unread}
 use Rattle.listing.specs.Text.{said, next}
-use Rattle.listing.specs.Running.{Stepped, short-line}
+use Rattle.listing.specs.Running.{short-line}
 use borrow.Author.Needs.{needs}
 use Rattle.listing.proofs.run.step.Statement.{statement}
 use Rattle.listing.proofs.run.step.Tie as tie

@@ -1,12 +1,12 @@
-use mathlib.Core.Path.{_≡_, refl, sym, _∙_}
-use mathlib.Core.Bool.{Bool, true, false, cond, _&&_, and-false}
+use mathlib.Core.Path.{_≡_, sym, _∙_}
+use mathlib.Core.Bool.{cond, and-false}
 use mathlib.Core.List.{[], _∷_}
 use Rattle.routes.specs.Route.{same}
 use Rattle.book.specs.declared.Kind.{Kind}
 use Rattle.book.specs.declared.Kind.the-variants.{Insert, Cheapen}
 use Rattle.listing.specs.declared.Line.{Line}
 use Rattle.listing.specs.declared.Line.the-variants.{Edit, Unread}
-use Rattle.listing.specs.Text.{bytes, isNumber, lineOf}
+use Rattle.listing.specs.Text.{bytes, lineOf}
 use Rattle.listing.specs.Reading.{number-is, number-not}
 use borrow.Author.Needs.{needs}
 use Rattle.listing.proofs.words.four.Statement.{statement}

@@ -1,14 +1,13 @@
 use Prim.Native.Nat.{_+_}
-use mathlib.Core.Path.{_≡_, refl, sym, _∙_}
-use mathlib.Core.Bool.{Bool, true, false, cond, _&&_, and-false}
-use mathlib.Core.List.{_∷_}
+use mathlib.Core.Path.{_≡_, sym, _∙_}
+use mathlib.Core.Bool.{cond, _&&_, and-false}
 use native.Mathlib.Omega.{arith}
 use lib.ListN.{take}
 use lib.Seq.{length-take-le}
 use borrow.Author.Tests.{not-true, not-false}
 use Rattle.routes.specs.Route.{same}
 use Rattle.listing.specs.Text.{bytes, words, value, isNumber, hallOf}
-use Rattle.listing.specs.Reading.{cutAt, from, word-first, word-last, word-some, number-is, number-not}
+use Rattle.listing.specs.Reading.{from, word-first, word-last, word-some, number-is, number-not}
 use borrow.Author.Needs.{needs}
 use Rattle.listing.proofs.words.hall_of.Statement.{statement}
 use Rattle.listing.proofs.words.hall_of.Tie as tie

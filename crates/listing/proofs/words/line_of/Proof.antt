@@ -1,11 +1,11 @@
 use Prim.Native.Nat.{_+_}
-use mathlib.Core.Path.{_≡_, refl, sym, _∙_}
+use mathlib.Core.Path.{_≡_, sym}
 use mathlib.Core.List.{_∷_}
 use native.Mathlib.Omega.{arith}
 use lib.ListN.{take}
 use lib.Seq.{length-take-le}
 use Rattle.listing.specs.Text.{words, lineOf}
-use Rattle.listing.specs.Reading.{cutAt, from, word-first, word-last, word-some}
+use Rattle.listing.specs.Reading.{from, word-first, word-last, word-some}
 use borrow.Author.Needs.{needs}
 use Rattle.listing.proofs.words.line_of.Statement.{statement}
 use Rattle.listing.proofs.words.line_of.Tie as tie

@@ -1,8 +1,8 @@
-use mathlib.Core.Path.{_≡_, refl, sym, _∙_}
-use mathlib.Core.Bool.{Bool, true, false, _&&_, and-false}
+use mathlib.Core.Path.{sym, _∙_}
+use mathlib.Core.Bool.{and-false}
 use borrow.Author.Tests.{not-true, not-false}
 use Rattle.routes.specs.Route.{same}
-use Rattle.listing.specs.Text.{bytes, isNumber, lineOf}
+use Rattle.listing.specs.Text.{bytes, lineOf}
 use Rattle.listing.specs.Reading.{number-is, number-not}
 use borrow.Author.Needs.{needs}
 use Rattle.listing.proofs.words.three.Statement.{statement}

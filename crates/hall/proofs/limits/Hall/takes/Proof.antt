@@ -1,10 +1,9 @@
 -- `Hall::takes` tests that n is from 1 to the most stops.
-use Prim.Native.Nat.{ℕ, suc, _≤_}
 use mathlib.Core.Path.{_≡_}
 use mathlib.Core.Bool.{true, false}
 use native.Mathlib.Omega.{arith}
 use lib.Dec.{leb}
-use borrow.Author.Tests.{eqb-true, eqb-false, le-leb, lt-leb}
+use borrow.Author.Tests.{le-leb, lt-leb}
 use Rattle.hall.proofs.limits.Hall.takes.Statement.{statement}
 use Rattle.hall.proofs.limits.Hall.takes.Tie as tie
 
