@@ -16,9 +16,5 @@ fn main() {
     let read = io::read_full(STDIN_FILENO, &mut text);
     let mut room = output();
     let listed = listing::list(&text[..read], &mut room);
-    let end = listed.length;
-    // the room always suffices
-    if end <= 430000 {
-        io::write_all(STDOUT_FILENO, &room[..end]);
-    }
+    io::write_all(STDOUT_FILENO, &room[..listed.length]);
 }

@@ -17,17 +17,19 @@ use Rattle.listing.specs.Printing.{Printed}
 use Rattle.listing.specs.Running.{noLinks}
 
 -- the listing from the front of the output, the bytes past it as they were; an output that is too short for some listing stays as it is
-abbrev pub wrote : List ℕ → List ℕ → Listed × List ℕ
+unfoldable pub wrote : List ℕ → List ℕ → Listed × List ℕ
 wrote input output =
     let text : List ℕ = listing input in
     cond (ltb (length output) 430000) (record { fits = false; length = 0 }, output)
     (record { fits = true; length = length text }, text ++ drop (length text) output)
 
 pub wrote-none : (input output : List ℕ) → length output < 430000 → (record { fits = false; length = 0 }, output) ≡ wrote input output
+unfolding wrote
 wrote-none input output h = rw (lt-ltb (length output) 430000 h)
 
 pub wrote-printed : (input output : List ℕ) (end : ℕ) (out : List ℕ) → 430000 ≤ length output → Printed (listing input) 0 output end out →
     (record { fits = true; length = end }, out) ≡ wrote input output
+unfolding wrote
 wrote-printed input output end out h p =
     let text : List ℕ = listing input in
     let zero : 0 + length text ≡ length text = omega arith in
@@ -48,6 +50,7 @@ by-hall (x ∷ input) e h cut = rw (le-ltb 32768 (length (x ∷ input)) h, cut, 
 
 -- the length that is answered lies within the output
 pub wrote-within : (input output : List ℕ) (r : Listed) (out : List ℕ) → (r, out) ≡ wrote input output → r .length ≤ length out
+unfolding wrote
 wrote-within input output r out e = subst⁻¹ (λ (x : Listed × List ℕ). x .0 .length ≤ length (x .1)) e (go (ltb (length output) 430000))
   where
     text : List ℕ

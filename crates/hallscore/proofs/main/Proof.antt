@@ -1,7 +1,9 @@
--- `hallscore::main` writes as many bytes as the listing answers, where its room has them.
+-- `hallscore::main` writes as many bytes as the listing answers; its room has them.
 use mathlib.Core.Path.{sym}
 use lib.Seq.{length-take-le}
+use native.Mathlib.Omega.{arith}
 use borrow.Author.Needs.{needs}
+use Rattle.listing.specs.Whole.{wrote-within}
 use Rattle.hallscore.proofs.main.Statement.{statement}
 use Rattle.hallscore.proofs.main.Tie as tie
 
@@ -30,7 +32,7 @@ list-requires : tie.Need-list-requires
 list-requires c κs = search needs
 
 array-share-prefix-room : tie.Need-array-share-prefix-room
-array-share-prefix-room c = search needs
+array-share-prefix-room c = omega (arith, wrote-within _ _ _ _ (c .before .list .ensures))
 
 slice-aggregate-write-all : tie.Need-slice-aggregate-write-all
 slice-aggregate-write-all c = sym (length-take-le _ _ (array-share-prefix-room (c .before)))
@@ -40,9 +42,6 @@ write-all-requires c κs = search needs
 
 returns : tie.Need-returns
 returns c = search needs
-
-returns-2 : tie.Need-returns-2
-returns-2 c = search needs
 
 pub main-spec : {M : Type 1} → statement M
 main-spec =
@@ -59,5 +58,4 @@ main-spec =
     array-share-prefix-room
     slice-aggregate-write-all
     write-all-requires
-    returns
-    returns-2)
+    returns)
