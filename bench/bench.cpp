@@ -1,5 +1,5 @@
 // Work out, audit and edit of the proved library beside Boost's and igraph's betweenness, in one process and on the same
-// graphs. Times are the least of several repetitions; ratios are theirs divided by ours.
+// graphs. Times are the least of many runs, taken in turn; ratios are theirs divided by ours.
 #include "hall.h"
 
 #include <boost/graph/adjacency_list.hpp>
@@ -56,15 +56,17 @@ static std::vector<Link> links_of(const Hall &h) {
     return links;
 }
 
-// Microseconds of one run, the least of `times` measurements of `batch` runs each.
-static double least_time(int times, int batch, const std::function<void()> &run) {
+// Microseconds of one run.
+static double time_of(const std::function<void()> &run) {
+    auto start = Clock::now();
+    run();
+    return std::chrono::duration<double, std::micro>(Clock::now() - start).count();
+}
+
+// The least of `times` runs.
+static double least_time(int times, const std::function<void()> &run) {
     double best = 1e300;
-    for (int i = 0; i < times; i++) {
-        auto start = Clock::now();
-        for (int j = 0; j < batch; j++) run();
-        std::chrono::duration<double, std::micro> spent = Clock::now() - start;
-        best = std::min(best, spent.count() / batch);
-    }
+    for (int i = 0; i < times; i++) best = std::min(best, time_of(run));
     return best;
 }
 
@@ -139,33 +141,39 @@ static int measure(const std::string &name, Hall h, std::mt19937 &random) {
     bool same = agrees(h, [&](size_t v) { return boost.scores[v]; }) &&
                 agrees(h, [&](size_t v) { return VECTOR(igraph.scores)[v]; });
 
-    double ours = least_time(30, 20, [&] { h.work_out(); });
-    double audit = least_time(30, 20, [&] { h.audit(); });
-    double theirs = least_time(20, 5, [&] { boost.run(); });
-    double others = least_time(20, 5, [&] { igraph.run(); });
+    double ours = 1e300, audit = 1e300, theirs = 1e300, others = 1e300;
+    for (int round = 0; round < 20; round++) {
+        ours = std::min(ours, least_time(50, [&] { h.work_out(); }));
+        audit = std::min(audit, least_time(50, [&] { h.audit(); }));
+        theirs = std::min(theirs, least_time(10, [&] { boost.run(); }));
+        others = std::min(others, least_time(10, [&] { igraph.run(); }));
+    }
 
-    // Edits: a link is deleted and inserted again, for a sample of the links; each is one edit with its audit.
+    // Edits: a link is deleted and inserted again, for a sample of the links; each is one edit with its audit, and counts
+    // with its least time of ten rounds.
     std::vector<Link> links = links_of(h);
     std::shuffle(links.begin(), links.end(), random);
     if (links.size() > 64) links.resize(64);
     uint64_t edits = 0, rows = 0;
-    auto all_edits = [&] {
-        edits = rows = 0;
-        for (const Link &l : links) {
-            hall_edited gone = h.remove(l.from, l.to);
-            if (gone.refusal) continue;
-            hall_edited back = h.insert(l.from, l.to, l.cost);
-            edits += 2;
-            rows += gone.rows + back.rows;
+    double edit = 0;
+    for (const Link &l : links) {
+        double gone = 1e300, back = 1e300;
+        hall_edited out = {}, in = {};
+        for (int round = 0; round < 10 && out.refusal == 0; round++) {
+            gone = std::min(gone, time_of([&] { out = h.remove(l.from, l.to); }));
+            if (out.refusal == 0) back = std::min(back, time_of([&] { in = h.insert(l.from, l.to, l.cost); }));
         }
-    };
-    double edit = least_time(10, 1, all_edits);
+        if (out.refusal) continue;
+        edit += gone + back;
+        edits += 2;
+        rows += out.rows + in.rows;
+    }
     edit /= edits ? edits : 1;
     same = same && h.audit() == 0;
 
-    std::printf("%-28s %5zu %6zu | %8.1f %8.1f %8.1f %5.1f | %6.2f %6.2f | %6.2f %6.2f | %s\n", name.c_str(),
+    std::printf("%-28s %5zu %6zu | %8.1f %8.1f %8.1f %5.1f | %6.2f %6.2f | %6.2f | %6.2f %6.2f | %s\n", name.c_str(),
                 links_of(h).size(), useful_links(h), ours, audit, edit, edits ? double(rows) / edits : 0.0, theirs / ours,
-                others / ours, theirs / edit, others / edit, same ? "agree" : "DIFFER");
+                others / ours, theirs / audit, theirs / edit, others / edit, same ? "agree" : "DIFFER");
     return same ? 0 : 1;
 }
 
@@ -216,9 +224,10 @@ static void write_links(const char *path, const Hall &h) {
 
 int main(int argc, char **argv) {
     std::mt19937 random(7);
-    std::printf("%-28s %5s %6s | %8s %8s %8s %5s | %6s %6s | %6s %6s |\n", "hall", "links", "useful", "work out", "audit",
-                "edit", "rows", "Boost", "igraph", "Boost", "igraph");
-    std::printf("%-28s %5s %6s | %8s %8s %8s %5s | %13s | %13s |\n", "", "", "", "us", "us", "us", "", "/ work out", "/ edit");
+    std::printf("%-28s %5s %6s | %8s %8s %8s %5s | %6s %6s | %6s | %6s %6s |\n", "hall", "links", "useful", "work out",
+                "audit", "edit", "rows", "Boost", "igraph", "Boost", "Boost", "igraph");
+    std::printf("%-28s %5s %6s | %8s %8s %8s %5s | %13s | %6s | %13s |\n", "", "", "", "us", "us", "us", "", "/ work out",
+                "/audit", "/ edit");
     int bad = 0;
     for (size_t links : {128, 256, 1024, 4032}) {
         Hall h = random_hall(64, links, random);
