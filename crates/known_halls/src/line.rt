@@ -1,0 +1,104 @@
+// The longest line: 64 stops, each with a link of the largest cost to the next.
+use super::calls::image_check;
+use super::report;
+use super::report::Inserts;
+use super::report::inserted;
+use super::report::no_inserts;
+use super::report::reached;
+use super::tables::Tables;
+use super::tables::filled;
+use super::tables::link;
+use super::tables::score;
+use super::text;
+use super::text::behind;
+use super::text::end;
+use super::text::field;
+use super::text::first;
+use super::text::say;
+
+fn links() -> Tables {
+    let mut t = filled(0, 0);
+    for u in 0u64..63 {
+        t = link(64, u, u + 1, 65535, t);
+    }
+    t
+}
+
+fn insert_links(before: Inserts) -> Inserts {
+    let mut inserts = before;
+    for u in 0u64..63 {
+        inserts = inserted(64, u, u + 1, 65535, inserts);
+    }
+    inserts
+}
+
+fn some_scores(t: Tables) {
+    field(b"scores of stops 0, 1, 31, 32, 63: ", score(0, t));
+    field(b" ", score(1, t));
+    field(b" ", score(31, t));
+    field(b" ", score(32, t));
+    field(b" ", score(63, t));
+    end();
+}
+
+// By work out, and by inserts.
+fn made() -> Tables {
+    let t = report::worked(64, links());
+    report::pair(63, t);
+    some_scores(t);
+    let empty = report::empty_hall(b"inserts: empty hall ", 64, filled(0, 0));
+    reached(64, insert_links(no_inserts(empty)), t);
+    t
+}
+
+fn records(image: &[u8]) {
+    text::bytes(b"first record", image, 0, 4);
+    text::bytes(b"last record", image, 248, 252);
+    text::bytes(b"trailer", image, 252, 260);
+    text::bytes(b"behind it", image, 260, 264);
+}
+
+// Writes the image into buffers of 264, 260 and 259 bytes that hold the byte 7.
+fn stored(t: Tables, long: &mut [u8], exact: &mut [u8], short: &mut [u8]) {
+    report::image_write(b"image write into 264 bytes: ", 64, t, long);
+    end();
+    records(long);
+    report::image_write(b"image write into 260 bytes: ", 64, t, exact);
+    end();
+    report::image_write(b"image write into 259 bytes: ", 64, t, short);
+    field(b", bytes changed ", text::changed(short));
+    end();
+}
+
+fn checked(image: &[u8], longer: &[u8]) {
+    field(b"image check: 260 bytes ", image_check(image, 64));
+    field(b", 264 bytes ", image_check(longer, 64));
+    field(b", first 256 bytes ", image_check(first(image, 256), 64));
+    field(b", last 256 bytes ", image_check(behind(image, 4), 64));
+    field(b", n = 63 ", image_check(image, 63));
+    field(b", n = 65 ", image_check(image, 65));
+    end();
+}
+
+// Reads the image over an empty hall; its tables are to be t.
+fn loaded(image: &[u8], t: Tables) {
+    let empty = report::empty_hall(b"over an empty hall ", 64, filled(0, 0));
+    let left = report::image_read(b": image read ", 64, image, empty);
+    report::audit(64, left);
+    report::same(left, t);
+    end();
+}
+
+pub fn longest() {
+    let mut bytes264 = [7u8; 264];
+    let mut bytes260 = [7u8; 260];
+    let mut bytes259 = [7u8; 259];
+    let long: &mut [u8] = &mut bytes264;
+    let exact: &mut [u8] = &mut bytes260;
+    let short: &mut [u8] = &mut bytes259;
+    say(b"a one-way line, 64 stops\n");
+    let t = made();
+    stored(t, long, exact, short);
+    checked(exact, long);
+    loaded(exact, t);
+}

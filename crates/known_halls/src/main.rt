@@ -1,0 +1,20 @@
+// Runs the hall calls on the known halls of document 01 that no theorem covers, and writes what
+// they answer and what their tables then hold.
+mod calls;
+mod line;
+mod parts;
+mod report;
+mod sizes;
+mod smallest;
+mod tables;
+mod text;
+mod ways;
+
+fn main() {
+    ways::most();
+    ways::one_more();
+    ways::beside_a_link();
+    line::longest();
+    sizes::too_large();
+    smallest::no_links();
+}

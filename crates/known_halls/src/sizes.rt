@@ -1,0 +1,47 @@
+// A hall of 65 stops, which no call takes. Every entry and byte is 7 at first.
+use super::calls::image_check;
+use super::report;
+use super::tables::Tables;
+use super::tables::filled;
+use super::text;
+use super::text::end;
+use super::text::field;
+use super::text::say;
+
+fn whole(t: Tables) -> Tables {
+    let empty = report::empty_hall(b"empty hall ", 65, t);
+    let left = report::work_out(b", work out ", 65, empty);
+    report::audit(65, left);
+    end();
+    left
+}
+
+fn edits(t: Tables) -> Tables {
+    let more = report::insert(b"insert 0 1: ", 65, 0, 1, 5, t);
+    end();
+    let cheaper = report::cheapen(b"cheapen 0 1: ", 65, 0, 1, 5, more);
+    end();
+    let left = report::delete(b"delete 0 1: ", 65, 0, 1, cheaper);
+    end();
+    left
+}
+
+fn images(t: Tables, buffer: &mut [u8]) -> Tables {
+    let image = [65u8, 1, 0, 0, 0, 0, 0, 0];
+    report::image_write(b"image write into 260 bytes: ", 65, t, buffer);
+    end();
+    let left = report::image_read(b"image read ", 65, &image, t);
+    field(b", image check ", image_check(&image, 65));
+    end();
+    left
+}
+
+pub fn too_large() {
+    let mut bytes = [7u8; 260];
+    let buffer: &mut [u8] = &mut bytes;
+    say(b"65 stops\n");
+    let left = images(edits(whole(filled(7, 7))), buffer);
+    field(b"bytes changed ", text::changed(buffer));
+    report::same(left, filled(7, 7));
+    end();
+}

@@ -1,0 +1,60 @@
+// Writing to standard output.
+use libc::STDOUT_FILENO;
+
+pub fn say(text: &[u8]) {
+    io::write_all(STDOUT_FILENO, text);
+}
+
+// A text, and a number behind it.
+pub fn field(text: &[u8], x: u64) {
+    io::write_all(STDOUT_FILENO, text);
+    io::print_decimal(STDOUT_FILENO, x);
+}
+
+pub fn end() {
+    say(b"\n");
+}
+
+fn wide(x: u8) -> u64 {
+    x as u64
+}
+
+fn at(bytes: &[u8], i: usize) -> u64 {
+    if i < bytes.len() { wide(bytes[i]) } else { 0 }
+}
+
+// A line: a name, and the bytes from one place up to another.
+pub fn bytes(name: &[u8], bytes: &[u8], from: usize, to: usize) {
+    say(name);
+    for i in from..to {
+        field(b" ", at(bytes, i));
+    }
+    end();
+}
+
+// The first k bytes, or all where there are fewer.
+pub fn first(bytes: &[u8], k: usize) -> &[u8] {
+    if k <= bytes.len() {
+        &bytes[0..k]
+    } else {
+        bytes
+    }
+}
+
+// The bytes behind the first k, or all where there are fewer.
+pub fn behind(bytes: &[u8], k: usize) -> &[u8] {
+    if k <= bytes.len() { &bytes[k..] } else { bytes }
+}
+
+fn unlike(x: u64, y: u64) -> u64 {
+    if x == y { 0 } else { 1 }
+}
+
+// The number of bytes that are not 7, the value that buffers have at first.
+pub fn changed(bytes: &[u8]) -> u64 {
+    let mut count = 0u64;
+    for i in 0..bytes.len() {
+        count = std::num::wrapping_add_u64(count, unlike(at(bytes, i), 7));
+    }
+    count
+}
