@@ -1,0 +1,376 @@
+// The choice of a call and its arguments.
+use super::calls::Ask;
+use super::calls::CHECK;
+use super::calls::EMPTY;
+use super::calls::INSERT;
+use super::calls::READ;
+use super::calls::Tables;
+use super::calls::WORK;
+use super::calls::WRITE;
+use super::chance::apart;
+use super::chance::costs;
+use super::chance::draw;
+use super::chance::once_in;
+use super::chance::some_cost;
+use super::image;
+use super::image::Image;
+use super::places::BYTES;
+use super::places::CELLS;
+use super::places::STOPS;
+use super::places::at;
+use super::places::at_long;
+use super::places::byte;
+use super::places::cells;
+use super::places::place;
+use super::places::put;
+use super::places::put_byte;
+use super::places::put_long;
+use std::num::wrapping_add_u64;
+
+pub struct Pair(u64, u64);
+
+// The number of stops of a hall, one to seven.
+pub fn stops(seed: &mut u64) -> u64 {
+    let x = draw(seed, 20);
+    match x {
+        0 => 1,
+        1 | 2 => 2,
+        3..=5 => 3,
+        6..=9 => 4,
+        10..=13 => 5,
+        14..=16 => 6,
+        _ => 7,
+    }
+}
+
+// Which call comes next: of 24, twelve are edits.
+pub fn call(seed: &mut u64) -> u64 {
+    let x = draw(seed, 24);
+    match x {
+        0..=4 => 3,
+        5..=7 => 4,
+        8..=11 => 5,
+        12..=14 => 1,
+        15 | 16 => 2,
+        17 | 18 => 6,
+        19..=21 => 7,
+        22 => 8,
+        _ => if once_in(seed, 4) { 0 } else { 3 },
+    }
+}
+
+// The n of a call: mostly that of the tables.
+fn size(seed: &mut u64, stops: u64) -> u64 {
+    if 0 < draw(seed, 16) {
+        return stops;
+    }
+    let x = draw(seed, 4);
+    match x {
+        0 => 0,
+        1 => 65,
+        2 => 18446744073709551615,
+        _ => if stops < 7 { stops + 1 } else { 6 },
+    }
+}
+
+// Which table is lent at a wrong length: mostly none.
+fn odd(seed: &mut u64) -> u64 {
+    if 0 < draw(seed, 16) {
+        return 0;
+    }
+    1 + draw(seed, 10)
+}
+
+// A stop: rarely one that the hall has not.
+fn stop(seed: &mut u64, stops: u64) -> u64 {
+    if 0 < draw(seed, 24) {
+        return draw(seed, stops);
+    }
+    if once_in(seed, 2) { stops } else { 4294967296 }
+}
+
+// Two stops: often the first and the last or the first two, rarely the same twice.
+fn two(seed: &mut u64, stops: u64) -> Pair {
+    let x = draw(seed, 12);
+    if x == 0 {
+        return Pair(0, 1);
+    }
+    let u = stop(seed, stops);
+    let v = stop(seed, stops);
+    if x == 1 {
+        return Pair(u, v);
+    }
+    if u != v {
+        return Pair(u, v);
+    }
+    if 0 < stops {
+        return Pair(0, stops - 1);
+    }
+    Pair(u, v)
+}
+
+// Whether an edit may be accepted where the present cost is this.
+fn suits(call: u64, present: u64) -> bool {
+    if call == INSERT {
+        return present == 0;
+    }
+    0 < present
+}
+
+// Two stops for an edit: where they do not suit it, drawn anew up to seven times.
+fn ends(seed: &mut u64, call: u64, stops: u64, cost: &[u32; CELLS]) -> Pair {
+    let mut pair = two(seed, stops);
+    for i in 0..draw(seed, 8) {
+        if !suits(call, at(cost, place(stops, pair.0, pair.1))) {
+            pair = two(seed, stops);
+        }
+    }
+    pair
+}
+
+// The cost of an edit.
+fn price(seed: &mut u64, u: u64, v: u64) -> u64 {
+    let x = draw(seed, 24);
+    match x {
+        0 => 0,
+        1 => 65536,
+        2 => 65535,
+        3 => 4294967297,
+        4..=15 => some_cost(seed, apart(u, v), true),
+        _ => some_cost(seed, 0, false),
+    }
+}
+
+// A cost table for work out: sometimes with an entry that it refuses.
+fn brought(seed: &mut u64, stops: u64) -> [u32; CELLS] {
+    let mut cost = costs(seed, stops);
+    if once_in(seed, 8) {
+        let s = draw(seed, stops);
+        put(&mut cost, place(stops, s, s), 1 + draw(seed, 3));
+    }
+    if once_in(seed, 8) {
+        let i = draw(seed, cells(stops) as u64);
+        put(&mut cost, i as usize, 65536);
+    }
+    cost
+}
+
+fn fill(seed: &mut u64, bytes: &mut [u8; BYTES]) {
+    for i in 0..BYTES {
+        put_byte(bytes, i, draw(seed, 256));
+    }
+}
+
+// Other bytes in one place of an image, or another length.
+fn damaged(seed: &mut u64, bytes: [u8; BYTES], length: usize) -> Image {
+    let mut next = bytes;
+    let x = draw(seed, 6);
+    let i = draw(seed, length as u64) as usize;
+    match x {
+        0 => put_byte(&mut next, i, draw(seed, 256)),
+        1 => put_byte(&mut next, i, byte(&bytes, i) + 1),
+        2 => put_byte(&mut next, i, byte(&bytes, i) + 255),
+        3 => swap(&mut next),
+        _ => return resized(seed, bytes, length),
+    }
+    Image {
+        bytes: next,
+        length,
+    }
+}
+
+// The first two records change places.
+fn swap(bytes: &mut [u8; BYTES]) {
+    for i in 0..4 {
+        let x = byte(bytes, i);
+        put_byte(bytes, i, byte(bytes, i + 4));
+        put_byte(bytes, i + 4, x);
+    }
+}
+
+// The image is cut, or has bytes more.
+fn resized(seed: &mut u64, bytes: [u8; BYTES], length: usize) -> Image {
+    let less = 1 + draw(seed, 9) as usize;
+    let mut other = length;
+    if less <= length {
+        other = length - less;
+    }
+    if once_in(seed, 3) {
+        if length < 190 {
+            other = length + less;
+        }
+    }
+    Image {
+        bytes,
+        length: other,
+    }
+}
+
+// The costs of the present hall, or those of a new one.
+fn held_or_new(seed: &mut u64, stops: u64, cost: [u32; CELLS]) -> [u32; CELLS] {
+    if once_in(seed, 2) {
+        return cost;
+    }
+    costs(seed, stops)
+}
+
+// An image to read or check: of the present hall or a new one, often damaged.
+fn some_image(seed: &mut u64, stops: u64, cost: [u32; CELLS], bytes: [u8; BYTES]) -> Image {
+    let held = held_or_new(seed, stops, cost);
+    let image = image::written(stops, held, bytes);
+    if once_in(seed, 2) {
+        return image;
+    }
+    let written = image.bytes;
+    damaged(seed, written, image.length)
+}
+
+// A buffer to write: about as long as the image, or of any length.
+fn buffer(seed: &mut u64, stops: u64, cost: [u32; CELLS], bytes: [u8; BYTES]) -> Image {
+    let image = image::written(stops, cost, bytes);
+    let mut length = draw(seed, 201) as usize;
+    if once_in(seed, 2) {
+        length = resized(seed, bytes, image.length).length;
+    }
+    if once_in(seed, 4) {
+        length = image.length;
+    }
+    Image { bytes, length }
+}
+
+// The bytes of a call.
+fn bytes(seed: &mut u64, call: u64, stops: u64, cost: [u32; CELLS]) -> Image {
+    let mut bytes = [0u8; BYTES];
+    match call {
+        READ | CHECK => {
+            fill(seed, &mut bytes);
+            some_image(seed, stops, cost, bytes)
+        }
+        WRITE => {
+            fill(seed, &mut bytes);
+            buffer(seed, stops, cost, bytes)
+        }
+        _ => Image { bytes, length: 0 },
+    }
+}
+
+// The cost table of a call.
+fn table(seed: &mut u64, call: u64, stops: u64) -> [u32; CELLS] {
+    if call == WORK {
+        return brought(seed, stops);
+    }
+    [0; CELLS]
+}
+
+// The call with its arguments, on a hall with these costs.
+pub fn ask(seed: &mut u64, call: u64, stops: u64, cost: [u32; CELLS]) -> Ask {
+    let ends = ends(seed, call, stops, &cost);
+    let image = bytes(seed, call, stops, cost);
+    let bytes = image.bytes;
+    let table = table(seed, call, stops);
+    Ask {
+        call,
+        n: size(seed, stops),
+        odd: odd(seed),
+        u: ends.0,
+        v: ends.1,
+        c: price(seed, ends.0, ends.1),
+        cost: table,
+        bytes,
+        length: image.length,
+    }
+}
+
+// The empty hall with which a sequence starts.
+pub fn start(stops: u64) -> Ask {
+    let cost = [0u32; CELLS];
+    let bytes = [0u8; BYTES];
+    Ask {
+        call: EMPTY,
+        n: stops,
+        odd: 0,
+        u: 0,
+        v: 0,
+        c: 0,
+        cost,
+        bytes,
+        length: 0,
+    }
+}
+
+// Another number in place of one of a table.
+fn strange(seed: &mut u64, x: u64) -> u64 {
+    let kind = draw(seed, 4);
+    match kind {
+        0 => 4294967295,
+        1 => draw(seed, 8),
+        _ => wrapping_add_u64(x, 1 + draw(seed, 3)),
+    }
+}
+
+// Another cost in place of one.
+fn strange_cost(seed: &mut u64) -> u64 {
+    let kind = draw(seed, 10);
+    match kind {
+        0 => 65536,
+        1 => 65535,
+        2 => 4294967295,
+        _ => draw(seed, 7),
+    }
+}
+
+// Changes an entry of a table of 32 bits, if it is the one to change.
+fn change(seed: &mut u64, table: &mut [u32; CELLS], i: usize, here: bool) {
+    let x = strange(seed, at(table, i));
+    if here {
+        put(table, i, x);
+    }
+}
+
+// The same for the shares.
+fn change_share(seed: &mut u64, table: &mut [u64; CELLS], i: usize, here: bool) {
+    let x = strange(seed, at_long(table, i));
+    if here {
+        put_long(table, i, x);
+    }
+}
+
+// The same for the scores.
+fn change_score(seed: &mut u64, table: &mut [u64; STOPS], i: usize, here: bool) {
+    let x = strange(seed, at_long(table, i));
+    if here {
+        put_long(table, i, x);
+    }
+}
+
+// The same for the cost table.
+fn change_cost(seed: &mut u64, table: &mut [u32; CELLS], i: usize, here: bool) {
+    let x = strange_cost(seed);
+    if here {
+        put(table, i, x);
+    }
+}
+
+// The tables with one entry changed.
+pub fn spoiled(seed: &mut u64, stops: u64, t: Tables) -> Tables {
+    let mut cost = t.cost;
+    let mut time = t.time;
+    let mut ways = t.ways;
+    let mut share = t.share;
+    let mut score = t.score;
+    let which = draw(seed, 5);
+    let i = draw(seed, cells(stops) as u64) as usize;
+    let v = draw(seed, stops) as usize;
+    change_cost(seed, &mut cost, i, which == 0);
+    change(seed, &mut time, i, which == 1);
+    change(seed, &mut ways, i, which == 2);
+    change_share(seed, &mut share, i, which == 3);
+    change_score(seed, &mut score, v, which == 4);
+    Tables {
+        cost,
+        time,
+        ways,
+        share,
+        score,
+    }
+}

@@ -1,0 +1,166 @@
+// Sequences of calls at random on halls of one to seven stops. Each answer and each table is held
+// against a book of links, document 01's rules of refusal and the slow lister.
+mod calls;
+mod chance;
+mod choose;
+mod compare;
+mod image;
+mod model;
+mod places;
+mod tally;
+
+use calls::Ask;
+use calls::CHECK;
+use calls::Said;
+use calls::Tables;
+use calls::WORK;
+use chance::draw;
+use chance::once_in;
+use model::Book;
+use places::CELLS;
+use places::STOPS;
+use tally::ROOM;
+use tally::add;
+
+const RUNS: u64 = 2500;
+
+// The book, the five tables, and whether the last call was refused.
+struct State {
+    book: Book,
+    hall: Tables,
+    refused: bool,
+}
+
+// Counts an answer, and what differs from its verdict.
+fn note(tally: &mut [u64; ROOM], call: u64, said: Said, differ: u64, ties: bool) {
+    tally::add_refusal(tally, call, said.refusal);
+    add(tally, tally::ANSWERS, 1);
+    add(tally, tally::TABLES, 5);
+    add(tally, tally::TOUCHED, said.rows);
+    tally::add_differences(tally, differ);
+    if ties {
+        add(tally, tally::TIES, 1);
+    }
+}
+
+// Makes a call, and counts what comes of it.
+fn trial(
+    tally: &mut [u64; ROOM],
+    ask: Ask,
+    stops: u64,
+    book: Book,
+    tables: Tables,
+    wrong: bool,
+) -> State {
+    let verdict = model::expect(ask, stops, book, wrong);
+    let answer = calls::make(ask, stops, tables);
+    let said = answer.said;
+    let left = answer.tables;
+    let right = verdict.said;
+    let next = verdict.book;
+    let ways = next.ways;
+    let refused = right.refusal != 0;
+    let differ = compare::differences(stops, tables, answer, verdict);
+    let ties = !refused & model::crowded(stops, &ways, 1);
+    note(tally, ask.call, said, differ, ties);
+    State {
+        book: next,
+        hall: left,
+        refused,
+    }
+}
+
+// A call on tables with one entry changed, which is put back where the call is refused. Where the
+// tables are still right, they are those of another hall.
+fn spoiled_trial(
+    seed: &mut u64,
+    tally: &mut [u64; ROOM],
+    ask: Ask,
+    stops: u64,
+    book: Book,
+    hall: Tables,
+) -> State {
+    add(tally, tally::SPOILED, 1);
+    let tables = choose::spoiled(seed, stops, hall);
+    let cost = tables.cost;
+    let seen = model::book_of(stops, cost);
+    if !compare::wrong(stops, tables, seen) {
+        return trial(tally, ask, stops, seen, tables, false);
+    }
+    let next = trial(tally, ask, stops, book, tables, true);
+    if !next.refused {
+        return next;
+    }
+    State {
+        book,
+        hall,
+        refused: true,
+    }
+}
+
+// A call with chosen arguments.
+fn step(seed: &mut u64, tally: &mut [u64; ROOM], stops: u64, state: State, call: u64) -> State {
+    let book = state.book;
+    let hall = state.hall;
+    let cost = book.cost;
+    let ask = choose::ask(seed, call, stops, cost);
+    if call != CHECK {
+        if once_in(seed, 8) {
+            return spoiled_trial(seed, tally, ask, stops, book, hall);
+        }
+    }
+    trial(tally, ask, stops, book, hall, false)
+}
+
+// An empty hall, over tables of any content.
+fn first(tally: &mut [u64; ROOM], stops: u64) -> State {
+    let cost = [7u32; CELLS];
+    let time = [8u32; CELLS];
+    let ways = [9u32; CELLS];
+    let share = [10u64; CELLS];
+    let score = [11u64; STOPS];
+    let junk = Tables {
+        cost,
+        time,
+        ways,
+        share,
+        score,
+    };
+    let none = [0u32; CELLS];
+    trial(
+        tally,
+        choose::start(stops),
+        stops,
+        model::book_of(stops, none),
+        junk,
+        true,
+    )
+}
+
+fn steps(seed: &mut u64, tally: &mut [u64; ROOM], stops: u64, start: State, count: u64) {
+    let mut state = start;
+    for i in 0..count {
+        let call = choose::call(seed);
+        state = step(seed, tally, stops, state, call);
+    }
+}
+
+fn sequence(seed: &mut u64, tally: &mut [u64; ROOM]) {
+    let stops = choose::stops(seed);
+    add(tally, tally::SEQUENCES, 1);
+    let mut state = first(tally, stops);
+    if once_in(seed, 2) {
+        state = step(seed, tally, stops, state, WORK);
+    }
+    let count = 20 + draw(seed, 21);
+    steps(seed, tally, stops, state, count);
+}
+
+fn main() {
+    let mut seed = 20011;
+    let mut tally = [0u64; ROOM];
+    for i in 0..RUNS {
+        sequence(&mut seed, &mut tally);
+    }
+    tally::write(&tally);
+}
