@@ -1,18 +1,18 @@
 -- What the check tests of a row, over functions: a row passes exactly if it is the row of the definitions. Assumes nothing.
-use Prim.Native.Nat.{ℕ, suc, _+_, _*_, _/_, _<_, _≤_, _∣_, min}
+use Prim.Native.Nat.{ℕ, suc, _+_, _*_, _/_, _^_, _<_, _≤_, _∣_, min}
 use mathlib.Core.Path.{_≡_, refl, sym, _∙_, ap, ap₂}
 use mathlib.Core.Logic.{_≢_}
 use mathlib.Core.Bool.{Bool, true, false, cond, _||_, or-true}
-use native.Mathlib.Nat.{le-trans, mul-le-mul-right, add-mul-div-left, div-zero, div-one, sub-le}
+use native.Mathlib.Nat.{le-trans, lt-of-le-of-lt, mul-le-mul-right, add-mul-div-left, div-zero, div-one, sub-le}
 use native.Mathlib.Decide.{decLe, ℕ-discrete}
 use native.Mathlib.Omega.{arith}
 use lib.Dec.{eqb, ltb}
-use borrow.Author.Tests.{eqb-true, eqb-false, eq-eqb, ne-eqb, ltb-true, ltb-false, lt-ltb, le-ltb}
-use Rattle.routes.specs.Route.{Costs, mark, link, sumTo, leastTime, ways}
-use Rattle.routes.specs.Equations.{Within, Times, Counts, Shares, tight, inflow, outflow, quotient, cappedWays, openShare}
-use Rattle.routes.specs.Booleans.{bool-iff, both}
+use borrow.Author.Tests.{eqb-true, eqb-false, eq-eqb, ne-eqb, ltb-true, lt-ltb, le-ltb}
+use Rattle.routes.specs.Route.{Costs, mark, link, leastTime, ways}
+use Rattle.routes.specs.Equations.{Within, Shares, tight, inflow, outflow, quotient, cappedWays, openShare}
+use Rattle.routes.specs.Booleans.{bool-iff}
 use Rattle.routes.specs.Sums.{cond-true, cond-false, member-le, sumTo-positive, flow-zero}
-use Rattle.routes.specs.Tight.{Tight, tight-true, outflow-cong}
+use Rattle.routes.specs.Tight.{tight-true, outflow-cong}
 use Rattle.routes.specs.Times.{ways-reached}
 use Rattle.routes.specs.Flows.{Flows, flows}
 use Rattle.routes.specs.Unique.{Row}
@@ -50,7 +50,7 @@ pub record Checked (W : Costs) (n s limit scale : ℕ) (d σ δ : ℕ → ℕ) :
   pub none : δ s ≡ 0
   pub bounded : (t : ℕ) → t < n → d t ≤ mark
   pub few : (t : ℕ) → t < n → σ t ≤ suc limit
-  pub little : (t : ℕ) → t < n → δ t ≤ n * scale
+  pub little : (t : ℕ) → t < n → δ t < 2 ^ 40
   pub reached : (t : ℕ) → t < n → eqb (d t) mark ≡ eqb (σ t) 0
   pub relaxed : (u t : ℕ) → u < n → t < n → link W u t ≡ true → d u ≢ mark → d t ≤ d u + W u t
   pub summed : (t : ℕ) → t < n → t ≢ s → σ t ≡ min (suc limit) (inflow W n d σ t)
@@ -142,18 +142,18 @@ module _ (W : Costs) (n s c limit scale : ℕ) (inside : s < n) (within : Within
       → (d t ≡ leastTime W n s t) × (σ t ≡ cappedWays W n s limit t) × (δ t ≡ openShare W n s limit scale t)
   checked-right d σ δ C = row-right W n s c limit scale inside within small div d σ δ (checked-row W n s limit scale d σ δ C)
 
-  -- and the row passes
-  pub right-checked : Checked W n s limit scale (leastTime W n s) (cappedWays W n s limit) (openShare W n s limit scale)
-  right-checked = record {
+  -- and the row passes, where its shares are below the bound
+  pub right-checked : n * scale < 2 ^ 40 → Checked W n s limit scale (leastTime W n s) (cappedWays W n s limit) (openShare W n s limit scale)
+  right-checked fine = record {
     source = R .times .source;
     one = R .counts .source;
     none = R .shares .source;
     bounded = R .times .bounded;
     few = λ t l. omega arith;
     little = λ t l.
-        le-trans
-        (open-le W n s limit scale t)
-        (le-trans (share-le W n s F scale t inside l) (mul-le-mul-right scale (sub-le n 2)));
+        lt-of-le-of-lt
+        (le-trans (open-le W n s limit scale t) (le-trans (share-le W n s F scale t inside l) (mul-le-mul-right scale (sub-le n 2))))
+        fine;
     reached = λ t l.
         bool-iff
         (eqb (D t) mark)

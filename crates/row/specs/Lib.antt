@@ -1,6 +1,7 @@
 pub mod Promise
 pub mod Sets
 pub mod Words
+pub mod Making
 pub mod Relaxing
 pub mod Settling
 pub mod Order

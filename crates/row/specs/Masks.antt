@@ -1,6 +1,6 @@
 -- The sets of links that masks hold, and the loops that make them. Assumes nothing.
-use Prim.Native.Nat.{ℕ, suc, _+_, _*_, _^_, _<_, _≤_}
-use mathlib.Core.Path.{_≡_, refl, sym, _∙_, ap, ap₂}
+use Prim.Native.Nat.{ℕ, _+_, _*_, _^_, _<_, _≤_}
+use mathlib.Core.Path.{_≡_, sym, _∙_, ap, ap₂}
 use mathlib.Core.Bool.{Bool, true, false, cond, _&&_, _||_, and-true, and-false, or-false}
 use mathlib.Core.List.{List}
 use native.Mathlib.Nat.{le-antisymm}
@@ -15,7 +15,7 @@ use Rattle.routes.specs.Route.{has}
 use Rattle.routes.specs.Booleans.{bool-iff}
 use Rattle.routes.specs.Sums.{below-suc}
 use Rattle.routes.specs.Bits.{split, has-none, has-or, has-pow}
-use Rattle.row.specs.Promise.{AllLinks, UsefulLinks}
+use Rattle.row.specs.Making.{Making}
 
 -- the table has a cost from u to t
 abbrev pub costly : ℕ → List ℕ → ℕ → ℕ → Bool
@@ -38,10 +38,12 @@ module _ (n : ℕ) (p : ℕ → Bool) where
   pub gathering-starts : Gathering n 0 p 0
   gathering-starts = record { within = omega arith; bits = λ t. has-none t ∙ sym (ap (λ b. b && p t) (le-ltb t 0 (omega arith))) }
 
-  pub gathering-goes : {i a x : ℕ} → i < n → Gathering n i p a → x ≡ cond (p i) (2 ^ i) 0 → Gathering n (i + 1) p (bitOr a x)
-  gathering-goes {i} {a} {x} l g e = record {
+  -- the set of i alone stands in a list
+  pub gathering-goes : {i a x : ℕ} {singles : List ℕ} → n ≤ 64 → i < n → Making 64 (λ t. 2 ^ t) singles → Gathering n i p a → x ≡ cond (p i) (getD singles i 0) 0
+      → Gathering n (i + 1) p (bitOr a x)
+  gathering-goes {i} {a} {x} most l m g e = record {
     within = omega arith;
-    bits = λ t. has-or a x t ∙ ap₂ _||_ (g .bits t) (ap (λ x. has x t) e ∙ one (p i) t) ∙ more t;
+    bits = λ t. has-or a x t ∙ ap₂ _||_ (g .bits t) (ap (λ x. has x t) (e ∙ ap (λ y. cond (p i) y 0) (m .made i (omega arith))) ∙ one (p i) t) ∙ more t;
   }
     where
       one : (b : Bool) (t : ℕ) → has (cond b (2 ^ i) 0) t ≡ (b && eqb t i)

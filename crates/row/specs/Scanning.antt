@@ -2,9 +2,9 @@
 use Prim.Native.Nat.{ℕ, _+_, _*_, _^_, _<_, _≤_, min}
 use mathlib.Core.Path.{_≡_}
 use mathlib.Core.Logic.{_≢_}
-use mathlib.Core.Bool.{Bool, true, false, cond, _&&_, _||_, Bool·beq}
+use mathlib.Core.Bool.{Bool, true, false, cond, _&&_, Bool·beq}
 use mathlib.Core.List.{List}
-use lib.Dec.{eqb, leb}
+use lib.Dec.{eqb, ltb, leb}
 use lib.ListN.{length, getD}
 use Rattle.routes.specs.Route.{mark, link, has, sumTo}
 use Rattle.routes.specs.Equations.{inflow, outflow}
@@ -22,30 +22,46 @@ pub record Parts (n : ℕ) (time ways share : List ℕ) : Type 0 where
   pub counted : length ways ≡ n
   pub shared : length share ≡ n
 
--- the entries at t are within bounds: no more than top ways and than the share most, and ways exactly where there is a time
-abbrev pub plain : ℕ → ℕ → ℕ → List ℕ → List ℕ → List ℕ → ℕ → Bool
-plain top most none time ways share t = (leb (at ways t) top && leb (at share t) most) && Bool·beq (eqb (at time t) none) (eqb (at ways t) 0)
+-- the entries at t are within bounds: no more than top ways, and ways exactly where there is a time
+abbrev pub plain : ℕ → ℕ → List ℕ → List ℕ → ℕ → Bool
+plain top none time ways t = leb (at ways t) top && Bool·beq (eqb (at time t) none) (eqb (at ways t) 0)
 
--- the ways at t are the sum, unless t is the source
+-- the share at t is below 2^40
+abbrev pub little : List ℕ → ℕ → Bool
+little share t = ltb (at share t) (2 ^ 40)
+
+-- t has one way
+abbrev pub single : List ℕ → ℕ → Bool
+single ways t = eqb (at ways t) 1
+
+-- the share of u is what flows back to it, times its ways
+abbrev pub paid : List ℕ → List ℕ → List ℕ → ℕ → Bool
+paid ways share flow u = eqb (at share u) (at ways u * at flow u)
+
+-- the ways at t are the sum, up to top
 abbrev pub agreed : ℕ → List ℕ → List ℕ → ℕ → Bool
-agreed s ways sum t = eqb t s || eqb (at ways t) (at sum t)
+agreed top ways sum t = eqb (at ways t) (min top (at sum t))
 
--- what the division of every share asks and leaves
-pub record Pushes (n s limit scale : ℕ) (ways share psi : List ℕ) : Type 0 where
-  pub inside : s < n
+-- what the sums of the scale and every share ask
+pub record Wholes (n scale : ℕ) (share psi : List ℕ) : Type 0 where
   pub most : n ≤ 64
-  pub some : 0 < limit
-  pub counted : length ways ≡ n
   pub shared : length share ≡ n
   pub room : length psi ≡ 64
   pub fits : (t : ℕ) → t < n → scale + at share t < 2 ^ 64
 
+-- what their division asks
+pub record Pushes (n limit scale : ℕ) (ways share psi : List ℕ) : Type 0 where
+  pub some : 0 < limit
+  pub counted : length ways ≡ n
+  pub wholes : Wholes n scale share psi
+
+-- and what is left of it, the source's set to 0
 pub record Pushing (n s limit scale : ℕ) (ways share psi : List ℕ) : Type 0 where
   pub room : length psi ≡ 64
   pub back : (t : ℕ) → t < n → at psi t ≡ pushed s limit scale (at ways) (at share) t
 
 -- what going over links from u asks
-pub record Scan (n s u top links : ℕ) (cost time ways psi sum : List ℕ) : Type 0 where
+pub record Scan (n s u links : ℕ) (cost time ways psi sum : List ℕ) : Type 0 where
   pub most : n ≤ 64
   pub source : s < n
   pub inside : u < n
@@ -55,49 +71,62 @@ pub record Scan (n s u top links : ℕ) (cost time ways psi sum : List ℕ) : Ty
   pub room : length psi ≡ 64
   pub sums : length sum ≡ 64
   pub below : Below n links
-  pub narrow : top ≤ 23
-  pub few : at ways u ≤ top
-  pub light : (t : ℕ) → t < n → at psi t ≤ 2 ^ 39
+  pub few : at ways u ≤ 23
+  pub light : (t : ℕ) → t < n → at psi t ≤ 2 ^ 41
   pub quiet : at psi s ≡ 0
-  pub small : (t : ℕ) → t < n → at sum t ≤ top
+  pub small : (t : ℕ) → t < n → at sum t ≤ 1472
 
 -- what the link from u to t gives where it is tight
 abbrev pub ifTight : ℕ → ℕ → List ℕ → List ℕ → ℕ → ℕ → ℕ
 ifTight n u cost time t x = cond (eqb (viaOf n u cost time t) (at time t)) x 0
 
--- and tells
-pub record Scans (n u top links : ℕ) (cost time ways psi old sum : List ℕ) (flow : ℕ) (bad : Bool) : Type 0 where
+-- and tells, where it was known before whether some link improves a time
+pub record Scans (n u links : ℕ) (cost time ways psi old sum : List ℕ) (before : Bool) (flow : ℕ) (bad : Bool) : Type 0 where
   pub sums : length sum ≡ 64
   pub flows : flow ≡ sumTo n (λ t. cond (has links t) (ifTight n u cost time t (at psi t)) 0)
-  pub relaxed : bad ≡ false → (t : ℕ) → has links t ≡ true → at time t ≤ viaOf n u cost time t
-  pub good : ((t : ℕ) → has links t ≡ true → at time t ≤ viaOf n u cost time t) → bad ≡ false
-  pub added : (t : ℕ) → at sum t ≡ cond (has links t) (min top (at old t + ifTight n u cost time t (at ways u))) (at old t)
+  pub relaxed : bad ≡ false → (before ≡ false) × ((t : ℕ) → has links t ≡ true → at time t ≤ viaOf n u cost time t)
+  pub good : before ≡ false → ((t : ℕ) → has links t ≡ true → at time t ≤ viaOf n u cost time t) → bad ≡ false
+  pub added : (t : ℕ) → at sum t ≡ cond (has links t) (at old t + ifTight n u cost time t (at ways u)) (at old t)
 
 -- what going over the links of all stops asks
-pub record Balance (n s top none : ℕ) (cost out time ways share psi sum : List ℕ) : Type 0 where
+pub record Balance (n s : ℕ) (cost out time ways psi sum flow : List ℕ) : Type 0 where
   pub most : n ≤ 64
   pub source : s < n
   pub square : length cost ≡ n * n
   pub masks : length out ≡ 64
   pub linked : (u t : ℕ) → u < n → has (at out u) t ≡ true → (t < n) × (0 < at cost (u * n + t))
-  pub marked : none ≡ mark
-  pub parts : Parts n time ways share
+  pub timed : length time ≡ n
+  pub counted : length ways ≡ n
+  pub bounded : (t : ℕ) → t < n → at time t ≤ mark
   pub room : length psi ≡ 64
   pub sums : length sum ≡ 64
-  pub narrow : top ≤ 23
-  pub few : (t : ℕ) → t < n → at ways t ≤ top
-  pub light : (t : ℕ) → t < n → at psi t ≤ 2 ^ 39
+  pub flows : length flow ≡ 64
+  pub few : (t : ℕ) → t < n → at ways t ≤ 23
+  pub light : (t : ℕ) → t < n → at psi t ≤ 2 ^ 41
   pub quiet : at psi s ≡ 0
   pub empty : (t : ℕ) → t < n → at sum t ≡ 0
 
--- the links from u improve no time, and its share is what flows back times its ways
-pub record Fair (n s : ℕ) (cost out time ways share psi : List ℕ) (u : ℕ) : Type 0 where
-  pub relaxed : (t : ℕ) → t < n → link (masked n cost out) u t ≡ true → at time u ≢ mark → at time t ≤ at time u + masked n cost out u t
-  pub shared : u ≢ s → at share u ≡ at ways u * outflow (masked n cost out) n (at time) (at psi) u
+-- the links from u improve no time
+abbrev pub Relaxed : ℕ → List ℕ → List ℕ → List ℕ → ℕ → Type 0
+Relaxed n cost out time u = (t : ℕ) → t < n → link (masked n cost out) u t ≡ true → at time u ≢ mark → at time t ≤ at time u + masked n cost out u t
 
--- and tells
-pub record Balanced (n s top : ℕ) (cost out time ways share psi sum : List ℕ) (ok : Bool) : Type 0 where
+-- and tells: the source has the sum 1 and the flow 0
+pub record Balanced (n s : ℕ) (cost out time ways psi sum flow : List ℕ) (bad : Bool) : Type 0 where
   pub sums : length sum ≡ 64
-  pub fair : ok ≡ true → (u : ℕ) → u < n → Fair n s cost out time ways share psi u
-  pub good : ((u : ℕ) → u < n → Fair n s cost out time ways share psi u) → ok ≡ true
-  pub summed : (t : ℕ) → t < n → at sum t ≡ min top (inflow (masked n cost out) n (at time) (at ways) t)
+  pub room : length flow ≡ 64
+  pub relaxed : bad ≡ false → (u : ℕ) → u < n → Relaxed n cost out time u
+  pub good : ((u : ℕ) → u < n → Relaxed n cost out time u) → bad ≡ false
+  pub one : at sum s ≡ 1
+  pub summed : (t : ℕ) → t < n → t ≢ s → at sum t ≡ inflow (masked n cost out) n (at time) (at ways) t
+  pub none : at flow s ≡ 0
+  pub flows : (u : ℕ) → u < n → u ≢ s → at flow u ≡ outflow (masked n cost out) n (at time) (at psi) u
+  pub light : (u : ℕ) → u < n → at flow u ≤ 2 ^ 47
+
+-- what the comparison of the shares asks
+pub record Pays (n : ℕ) (ways share flow : List ℕ) : Type 0 where
+  pub most : n ≤ 64
+  pub counted : length ways ≡ n
+  pub shared : length share ≡ n
+  pub room : length flow ≡ 64
+  pub few : (t : ℕ) → t < n → at ways t ≤ 23
+  pub light : (t : ℕ) → t < n → at flow t ≤ 2 ^ 47

@@ -2,24 +2,24 @@
 use Prim.Native.Nat.{ℕ, suc, _+_, _*_, _^_, _/_, _<_, _≤_, min}
 use mathlib.Core.Path.{_≡_, refl, sym, _∙_, ap, ap₂}
 use mathlib.Core.Logic.{_≢_}
-use mathlib.Core.Bool.{Bool, true, false, cond, _&&_, _||_, Bool·beq, and-eq-true-iff}
+use mathlib.Core.Bool.{Bool, true, false, cond, _||_, Bool·beq, and-eq-true-iff}
 use mathlib.Core.List.{List}
-use native.Mathlib.Nat.{mul-le-mul-right, div-le-self, le-trans}
+use native.Mathlib.Nat.{mul-le-mul-right, div-le-self}
 use native.Mathlib.Omega.{arith}
 use lib.Dec.{eqb, ltb, leb}
-use lib.ListN.{length, getD, replicate, getD-replicate, length-replicate}
-use borrow.Author.Tests.{eqb-true, eqb-false, eq-eqb, ne-eqb, leb-true, le-leb}
+use lib.ListN.{length, replicate, getD-replicate, length-replicate}
+use borrow.Author.Tests.{eqb-true, eqb-false, eq-eqb, leb-true, le-leb, lt-ltb, ltb-true}
 use Rattle.routes.specs.Route.{Costs, mark, allTo, same, listTo, has, leastTime}
 use Rattle.routes.specs.Equations.{Within, outflow, cappedWays, openShare}
-use Rattle.routes.specs.Booleans.{bool-iff, both}
-use Rattle.routes.specs.Sums.{all-true, all-of, cond-true, cond-false, is-false}
+use Rattle.routes.specs.Booleans.{bool-iff}
+use Rattle.routes.specs.Sums.{all-true, all-of, cond-true, is-false}
 use Rattle.routes.specs.Lists.{same-refl, same-true}
 use Rattle.routes.specs.Rows.{getD-listTo, listTo-of}
 use Rattle.routes.specs.Bits.{split}
 use Rattle.routes.specs.Tight.{SameTight, same-tight, inflow-cong, outflow-cong}
 use Rattle.row.specs.Promise.{masked, Task, isRow}
 use Rattle.row.specs.Checked.{Checked, pushOf, pushed, checked-right, right-checked}
-use Rattle.row.specs.Scanning.{at, Parts, plain, agreed, Pushes, Pushing, Balance, Fair, Balanced}
+use Rattle.row.specs.Scanning.{at, Parts, plain, little, paid, agreed, Pushes, Pushing, Balance, Relaxed, Balanced, Pays}
 
 -- rows that agree below n pass together
 checked-cong : (W : Costs) (n s limit scale : ℕ) (d σ δ d′ σ′ δ′ : ℕ → ℕ) → s < n → ((t : ℕ) → t < n → (d t ≡ d′ t) × (σ t ≡ σ′ t) × (δ t ≡ δ′ t))
@@ -105,7 +105,7 @@ module _ (n s : ℕ) (cost out : List ℕ) (scale limit top : ℕ) (time ways sh
       let (b, c) = and-eq-true-iff (same ways _) _ .0 rest in
       checked-cong W n s limit scale (leastTime W n s) (cappedWays W n s limit) (openShare W n s limit scale) (at time) (at ways) (at share) (T .source)
       (λ t l. (entry time (leastTime W n s) a t l, entry ways (cappedWays W n s limit) b t l, entry share (openShare W n s limit scale) c t l))
-      (right-checked W n s 131070 limit scale (T .source) within small (T .whole))
+      (right-checked W n s 131070 limit scale (T .source) within small (T .whole) (omega (arith, T .fine, mul-le-mul-right scale (T .most))))
     where
       entry : (l : List ℕ) (f : ℕ → ℕ) → same l (listTo n f) ≡ true → (t : ℕ) → t < n → f t ≡ at l t
       entry l f e t k = sym (getD-listTo n f 0 t k) ∙ sym (ap (λ l. at l t) (same-true l (listTo n f) e))
@@ -115,50 +115,59 @@ module _ (n s : ℕ) (cost out : List ℕ) (scale limit top : ℕ) (time ways sh
   refuted h = is-false verdict (λ e. h (row-passed e))
 
   -- the row is within bounds
-  pub passed-plain : Passed → allTo n (plain (limit + 1) (n * scale) top time ways share) ≡ true
+  pub passed-plain : Passed → allTo n (plain (limit + 1) top time ways) ≡ true
   passed-plain C =
       all-of n _ (λ t l.
-      and-eq-true-iff (leb (at ways t) (limit + 1) && leb (at share t) (n * scale)) _ .1 (
-        and-eq-true-iff (leb (at ways t) (limit + 1)) _ .1 (le-leb (at ways t) (limit + 1) (omega (arith, C .few t l)), le-leb _ _ (C .little t l)),
+      and-eq-true-iff (leb (at ways t) (limit + 1)) _ .1 (
+        le-leb (at ways t) (limit + 1) (omega (arith, C .few t l)),
         beq-of (ap (eqb (at time t)) (T .marked) ∙ C .reached t l),
       ))
 
-  plain-at : allTo n (plain (limit + 1) (n * scale) top time ways share) ≡ true → (t : ℕ) → t < n
-      → (at ways t ≤ limit + 1) × (at share t ≤ n * scale) × (eqb (at time t) top ≡ eqb (at ways t) 0)
-  plain-at p t l =
-      let (a, e) = and-eq-true-iff (leb (at ways t) (limit + 1) && leb (at share t) (n * scale)) _ .0 (all-true n _ p t l) in
-      let (w, x) = and-eq-true-iff (leb (at ways t) (limit + 1)) _ .0 a in
-      (leb-true _ _ w, leb-true _ _ x, of-beq _ _ e)
+  plain-at : allTo n (plain (limit + 1) top time ways) ≡ true → (t : ℕ) → t < n → (at ways t ≤ limit + 1) × (eqb (at time t) top ≡ eqb (at ways t) 0)
+  plain-at p t l = let (w, e) = and-eq-true-iff (leb (at ways t) (limit + 1)) _ .0 (all-true n _ p t l) in (leb-true _ _ w, of-beq _ _ e)
+
+  few-at : allTo n (plain (limit + 1) top time ways) ≡ true → (t : ℕ) → t < n → at ways t ≤ 23
+  few-at p t l = omega (arith, plain-at p t l .0, T .few)
+
+  pub passed-little : Passed → allTo n (little share) ≡ true
+  passed-little C = all-of n (little share) (λ t l. lt-ltb (at share t) (2 ^ 40) (C .little t l))
+
+  little-at : allTo n (little share) ≡ true → (t : ℕ) → t < n → at share t < 2 ^ 40
+  little-at p t l = ltb-true (at share t) (2 ^ 40) (all-true n (little share) p t l)
 
   -- within bounds, the divisions can be made
-  pub plain-pushes : {psi : List ℕ} → allTo n (plain (limit + 1) (n * scale) top time ways share) ≡ true → length psi ≡ 64
-      → Pushes n s limit scale ways share psi
-  plain-pushes p e = record {
-    inside = T .source;
-    most = T .most;
-    some = T .some;
-    counted = P .counted;
-    shared = P .shared;
-    room = e;
-    fits = λ t l. omega (arith, plain-at p t l .1, T .fine, mul-le-mul-right scale (T .most));
-  }
+  pub little-pushes : {psi : List ℕ} → allTo n (little share) ≡ true → length psi ≡ 64 → (s < n) × Pushes n limit scale ways share psi
+  little-pushes p e = (
+    T .source,
+    record {
+      some = T .some;
+      counted = P .counted;
+      wholes = record {
+        most = T .most;
+        shared = P .shared;
+        room = e;
+        fits = λ t l. omega (arith, little-at p t l, T .fine);
+      };
+    },
+  )
 
   -- and what the sums ask holds
-  pub plain-balance : {psi : List ℕ} → allTo n (plain (limit + 1) (n * scale) top time ways share) ≡ true → Pushing n s limit scale ways share psi
-      → Balance n s (limit + 1) top cost out time ways share psi (replicate 64 0)
-  plain-balance {psi} p q = record {
+  pub plain-balance : {psi : List ℕ} → ((t : ℕ) → t < n → at time t ≤ mark) → allTo n (plain (limit + 1) top time ways) ≡ true → allTo n (little share) ≡ true
+      → Pushing n s limit scale ways share psi → Balance n s cost out time ways psi (replicate 64 0) (replicate 64 0)
+  plain-balance {psi} b p i q = record {
     most = T .most;
     source = T .source;
     square = T .square;
     masks = T .masks;
     linked = T .linked;
-    marked = T .marked;
-    parts = P;
+    timed = P .timed;
+    counted = P .counted;
+    bounded = b;
     room = q .room;
     sums = length-replicate {A = ℕ} 64 0;
-    narrow = omega (arith, T .few);
-    few = λ t l. plain-at p t l .0;
-    light = λ t l. omega (arith, q .back t l, under (eqb t s) (push-le limit scale (at ways t) (at share t)), plain-at p t l .1, T .fine, mul-le-mul-right scale (T .most));
+    flows = length-replicate {A = ℕ} 64 0;
+    few = few-at p;
+    light = λ t l. omega (arith, q .back t l, under (eqb t s) (push-le limit scale (at ways t) (at share t)), little-at i t l, T .fine);
     quiet = q .back s (T .source) ∙ cond-true 0 _ (eq-eqb s s refl);
     empty = λ t l. getD-replicate {A = ℕ} 64 t 0 0 (omega (arith, T .most));
   }
@@ -171,27 +180,39 @@ module _ (n s : ℕ) (cost out : List ℕ) (scale limit top : ℕ) (time ways sh
       → outflow W n (at time) (at psi) u ≡ outflow W n (at time) (pushed s limit scale (at ways) (at share)) u
   same-back {psi} q u l = outflow-cong W (at time) W (at time) n (λ _ _ _ _. refl) (at psi) (pushed s limit scale (at ways) (at share)) u l (λ w k _. q .back w k)
 
-  pub passed-fair : {psi : List ℕ} → Passed → Pushing n s limit scale ways share psi → (u : ℕ) → u < n → Fair n s cost out time ways share psi u
-  passed-fair {psi} C q u l = record {
-    relaxed = λ t k. C .relaxed u t l k;
-    shared = λ h. C .shared u l h ∙ ap (λ x. at ways u * x) (sym (same-back q u l));
-  }
+  pub passed-relaxed : Passed → (u : ℕ) → u < n → Relaxed n cost out time u
+  passed-relaxed C u l t k = C .relaxed u t l k
 
-  -- where all other tests have passed, the ways decide
-  pub decided : {psi sum : List ℕ} → at time s ≡ 0 → at ways s ≡ 1 → at share s ≡ 0 → ((t : ℕ) → t < n → at time t ≤ mark)
-      → allTo n (plain (limit + 1) (n * scale) top time ways share) ≡ true → Pushing n s limit scale ways share psi
-      → Balanced n s (limit + 1) cost out time ways share psi sum true → allTo n (agreed s ways sum) ≡ verdict
-  decided {psi} {sum} d σ δ b p q r = bool-iff _ verdict
-      (λ h. passed-row (record {
-        source = d;
-        one = σ;
-        none = δ;
-        bounded = b;
-        few = λ t l. omega (arith, plain-at p t l .0);
-        little = λ t l. plain-at p t l .1;
-        reached = λ t l. sym (ap (eqb (at time t)) (T .marked)) ∙ plain-at p t l .2;
-        relaxed = λ u t k l. r .fair refl u k .relaxed t l;
-        summed = λ t l g. eqb-true (at ways t) (at sum t) (rw (ne-eqb t s g) at (all-true n (agreed s ways sum) h t l)) ∙ omega (arith, r .summed t l);
-        shared = λ v l g. r .fair refl v l .shared g ∙ ap (λ x. at ways v * x) (same-back q v l);
-      }))
-      (λ e. let C = row-passed e in all-of n (agreed s ways sum) (λ t l. split (eqb t s) (λ g. rw g) (λ g. rw g (eq-eqb (at ways t) (at sum t) (omega (arith, C .summed t l (eqb-false t s g), r .summed t l))))))
+  -- with what flows back, the shares can be compared
+  module _ {psi sum flow : List ℕ} {bad : Bool} (δ : at share s ≡ 0) (p : allTo n (plain (limit + 1) top time ways) ≡ true) (q : Pushing n s limit scale ways share psi)
+      (r : Balanced n s cost out time ways psi sum flow bad) where
+    pub balanced-pays : Pays n ways share flow
+    balanced-pays = record { most = T .most; counted = P .counted; shared = P .shared; room = r .room; few = few-at p; light = r .light }
+
+    flow-is : (u : ℕ) → u < n → u ≢ s → at flow u ≡ outflow W n (at time) (pushed s limit scale (at ways) (at share)) u
+    flow-is u l h = r .flows u l h ∙ same-back q u l
+
+    pub passed-paid : Passed → allTo n (paid ways share flow) ≡ true
+    passed-paid C = all-of n (paid ways share flow) (λ u l. eq-eqb (at share u) (at ways u * at flow u) (split (eqb u s)
+        (λ e. rw (eqb-true u s e, δ, r .none) (omega arith))
+        (λ e. let h = eqb-false u s e in C .shared u l h ∙ ap (λ x. at ways u * x) (sym (flow-is u l h)))))
+
+    -- where all other tests have passed, the ways decide
+    pub decided : at time s ≡ 0 → at ways s ≡ 1 → ((t : ℕ) → t < n → at time t ≤ mark) → allTo n (little share) ≡ true → bad ≡ false
+        → allTo n (paid ways share flow) ≡ true → allTo n (agreed (limit + 1) ways sum) ≡ verdict
+    decided d σ b i f v = bool-iff _ verdict
+        (λ h. passed-row (record {
+          source = d;
+          one = σ;
+          none = δ;
+          bounded = b;
+          few = λ t l. omega (arith, plain-at p t l .0);
+          little = little-at i;
+          reached = λ t l. sym (ap (eqb (at time t)) (T .marked)) ∙ plain-at p t l .1;
+          relaxed = λ u t k l. r .relaxed f u k t l;
+          summed = λ t l g. omega (arith, eqb-true (at ways t) _ (all-true n (agreed (limit + 1) ways sum) h t l), r .summed t l g);
+          shared = λ u l g. eqb-true (at share u) _ (all-true n (paid ways share flow) v u l) ∙ ap (λ x. at ways u * x) (flow-is u l g);
+        }))
+        (λ e. let C = row-passed e in all-of n (agreed (limit + 1) ways sum) (λ t l. eq-eqb (at ways t) (min (limit + 1) (at sum t)) (split (eqb t s)
+        (λ g. rw (eqb-true t s g) (omega (arith, r .one, T .some)))
+        (λ g. omega (arith, C .summed t l (eqb-false t s g), r .summed t l (eqb-false t s g))))))

@@ -1,10 +1,10 @@
 // One source's row of a hall: the least time, the ways and the share of every stop.
 // Links are those of the masks: `out[u]` has bit t where the link u to t counts.
-pub mod check;
 pub mod masks;
 mod push;
 mod sets;
 mod settle;
+pub mod verify;
 
 ghost use mathlib.Core.Path.{_≡_};
 ghost use mathlib.Core.Bool.{not};

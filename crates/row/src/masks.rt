@@ -1,9 +1,11 @@
 // The links of a cost table as sets of stops, one for each stop that they leave.
+use super::sets;
 ghost use mathlib.Core.Path.{_≡_};
 ghost use mathlib.Core.Bool.{cond};
-ghost use Prim.Native.Nat.{_*_, _^_, _<_, _≤_};
+ghost use Prim.Native.Nat.{_*_, _^_, _≤_};
 ghost use lib.ListN.{length};
 ghost use Rattle.row.specs.Promise.{AllLinks, UsefulLinks};
+ghost use Rattle.row.specs.Making.{Making};
 ghost use Rattle.row.specs.Masks.{Mask, costly, exact};
 
 // The links of every stop: bit t of out[u] where the table has a cost from u to t.
@@ -11,9 +13,11 @@ pub fn all_links(n: usize, cost: &[u32], out: &mut [u64; 64])
     requires { ⌜ (n ≤ 64) × (length (now cost) ≡ n * n) ⌝ }
     ensures { λ _. ⌜ AllLinks n (now (cost .entry)) (now (out .exit)) ⌝ }
 {
+    let mut singles = [0u64; 64];
+    each_alone(&mut singles);
     let mut masks = [0u64; 64];
     for u in 0..64 {
-        masks[u] = links(n, u, cost);
+        masks[u] = links(n, u, cost, &singles);
     }
     *out = masks;
 }
@@ -23,16 +27,28 @@ pub fn useful_links(n: usize, cost: &[u32], time: &[u32], out: &mut [u64; 64])
     requires { ⌜ (n ≤ 64) × (length (now cost) ≡ n * n) × (length (now time) ≡ n * n) ⌝ }
     ensures { λ _. ⌜ UsefulLinks n (now (cost .entry)) (now (time .entry)) (now (out .exit)) ⌝ }
 {
+    let mut singles = [0u64; 64];
+    each_alone(&mut singles);
     let mut masks = [0u64; 64];
     for u in 0..64 {
-        masks[u] = useful(n, u, cost, time);
+        masks[u] = useful(n, u, cost, time, &singles);
     }
     *out = masks;
 }
 
+// The set of each stop alone.
+fn each_alone(singles: &mut [u64; 64])
+    requires { ⌜ length (now singles) ≡ 64 ⌝ }
+    ensures { λ _. ⌜ Making 64 (λ t. 2 ^ t) (now (singles .exit)) ⌝ }
+{
+    for t in 0..64 {
+        singles[t] = sets::only(t);
+    }
+}
+
 // The links of stop u, none where there is no such stop.
-fn links(n: usize, u: usize, cost: &[u32]) -> u64
-    requires { ⌜ (n ≤ 64) × (length (now cost) ≡ n * n) ⌝ }
+fn links(n: usize, u: usize, cost: &[u32], singles: &[u64; 64]) -> u64
+    requires { ⌜ (n ≤ 64) × (length (now cost) ≡ n * n) × Making 64 (λ t. 2 ^ t) (now singles) ⌝ }
     ensures { λ r. ⌜ Mask n (costly n (now (cost .entry))) u r ⌝ }
 {
     let mut set: u64 = 0;
@@ -41,13 +57,13 @@ fn links(n: usize, u: usize, cost: &[u32]) -> u64
     }
     let base = u * n;
     for t in 0..n {
-        set |= bit(0 < cost[base + t], t);
+        set |= kept(0 < cost[base + t], singles[t]);
     }
     set
 }
 
-fn useful(n: usize, u: usize, cost: &[u32], time: &[u32]) -> u64
-    requires { ⌜ (n ≤ 64) × (length (now cost) ≡ n * n) × (length (now time) ≡ n * n) ⌝ }
+fn useful(n: usize, u: usize, cost: &[u32], time: &[u32], singles: &[u64; 64]) -> u64
+    requires { ⌜ (n ≤ 64) × (length (now cost) ≡ n * n) × (length (now time) ≡ n * n) × Making 64 (λ t. 2 ^ t) (now singles) ⌝ }
     ensures { λ r. ⌜ Mask n (exact n (now (cost .entry)) (now (time .entry))) u r ⌝ }
 {
     let mut set: u64 = 0;
@@ -57,15 +73,14 @@ fn useful(n: usize, u: usize, cost: &[u32], time: &[u32]) -> u64
     let base = u * n;
     for t in 0..n {
         let c = cost[base + t];
-        set |= bit((0 < c) & (c == time[base + t]), t);
+        set |= kept((0 < c) & (c == time[base + t]), singles[t]);
     }
     set
 }
 
-// The set of t alone, or none.
-fn bit(yes: bool, t: usize) -> u64
-    requires { ⌜ t < 64 ⌝ }
-    ensures { λ r. ⌜ r ≡ cond yes (2 ^ t) 0 ⌝ }
+// The set, or none.
+fn kept(yes: bool, set: u64) -> u64
+    ensures { λ r. ⌜ r ≡ cond yes set 0 ⌝ }
 {
-    (yes as u64) << (t as u64)
+    if yes { set } else { 0 }
 }

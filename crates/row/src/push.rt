@@ -2,7 +2,6 @@
 use super::sets;
 ghost use mathlib.Core.Path.{_≡_};
 ghost use Prim.Native.Nat.{_<_};
-ghost use lib.ListN.{length};
 ghost use Rattle.routes.specs.Equations.{quotient};
 ghost use Rattle.row.specs.Owing.{Adds, Added, Waits, Paid};
 

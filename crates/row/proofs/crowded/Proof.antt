@@ -6,7 +6,6 @@ use native.Mathlib.Omega.{arith}
 use lib.ListN.{length}
 use Rattle.routes.specs.Route.{allTo}
 use Rattle.row.specs.Whole.{within, crowded-none, crowded-more}
-use borrow.Author.Needs.{needs}
 use Rattle.row.proofs.crowded.Statement.{statement}
 use Rattle.row.proofs.crowded.Tie as tie
 use Rattle.row.proofs.crowded.Reads as reads

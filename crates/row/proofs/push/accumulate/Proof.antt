@@ -4,7 +4,6 @@ use mathlib.Core.Path.{refl}
 use lib.Arith.{le-zero}
 use lib.ListN.{getD}
 use Rattle.row.specs.Owing.{Paying, paying-starts, paying-place, paying-step, paying-goes, paying-ends}
-use borrow.Author.Needs.{needs}
 use Rattle.row.proofs.push.accumulate.Statement.{statement}
 use Rattle.row.proofs.push.accumulate.Tie as tie
 use Rattle.row.proofs.push.accumulate.Reads as reads

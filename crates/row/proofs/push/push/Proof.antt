@@ -1,4 +1,3 @@
-use borrow.Author.Needs.{needs}
 use native.Mathlib.Omega.{arith}
 use Rattle.row.specs.Owing.{Adding, adding-starts, adding-room, adding-goes, adding-ends}
 use Rattle.row.proofs.push.push.Statement.{statement}

@@ -4,7 +4,6 @@ use mathlib.Core.Bool.{cond}
 use borrow.Author.Tests.{lt-ltb, le-ltb, le-leb, lt-leb}
 use lib.Bits.{bitOr}
 use lib.Dec.{ltb, leb}
-use borrow.Author.Needs.{needs}
 use Rattle.row.proofs.settle.parents.Statement.{statement}
 use Rattle.row.proofs.settle.parents.Tie as tie
 use Rattle.row.proofs.settle.parents.Reads as reads

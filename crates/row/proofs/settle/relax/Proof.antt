@@ -1,6 +1,5 @@
 use native.Mathlib.Omega.{arith}
 use Rattle.row.specs.Relaxing.{Relaxing, relaxing-starts, relaxing-goes, relaxing-ends, relaxing-inside, flat-lt}
-use borrow.Author.Needs.{needs}
 use Rattle.row.proofs.settle.relax.Statement.{statement}
 use Rattle.row.proofs.settle.relax.Tie as tie
 use Rattle.row.proofs.settle.relax.Reads as reads

@@ -2,7 +2,6 @@ use Prim.Native.Nat.{_-_}
 use mathlib.Core.Path.{refl, sym, _∙_}
 use native.Mathlib.Omega.{arith}
 use Rattle.row.specs.Turns.{Turn, turn-starts, turn-bounds, turn-room, turn-tally, turn-offers, turn-goes, turn-ends}
-use borrow.Author.Needs.{needs}
 use Rattle.row.proofs.settle.settle.Statement.{statement}
 use Rattle.row.proofs.settle.settle.Tie as tie
 use Rattle.row.proofs.settle.settle.Reads as reads

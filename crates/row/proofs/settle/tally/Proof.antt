@@ -1,6 +1,5 @@
 use native.Mathlib.Omega.{arith}
 use Rattle.row.specs.Words.{Tallying, tallying-starts, tallying-goes, tallying-ends}
-use borrow.Author.Needs.{needs}
 use Rattle.row.proofs.settle.tally.Statement.{statement}
 use Rattle.row.proofs.settle.tally.Tie as tie
 use Rattle.row.proofs.settle.tally.Reads as reads

@@ -2,41 +2,30 @@ use mathlib.Core.Path.{_∙_, ap}
 use Prim.Native.Nat.{_+_, _/_}
 use Rattle.row.specs.Checked.{push-one, push-none, push-crowded, push-some}
 use borrow.Author.Needs.{needs}
-use Rattle.row.proofs.check.push.Statement.{statement}
-use Rattle.row.proofs.check.push.Tie as tie
-use Rattle.row.proofs.check.push.Reads as reads
-use Rattle.row.proofs.check.push.Lts as lts
-use Rattle.row.proofs.check.wide.Reads as wide-reads
+use Rattle.row.proofs.verify.push.Statement.{statement}
+use Rattle.row.proofs.verify.push.Tie as tie
 
--- src/check.rt:92:16
 add-result : tie.Need-add-result
 add-result c = search needs
 
--- src/check.rt:92:9
 returns : tie.Need-returns
 returns c = push-one _ _ _ _ (c .if1 .taken) ((c .before) .pre .0)
 
--- src/check.rt:95:9
 returns-2 : tie.Need-returns-2
 returns-2 c = push-none _ _ _ _ (c .if2 .taken)
 
--- src/check.rt:98:9
 returns-3 : tie.Need-returns-3
 returns-3 c = push-crowded _ _ _ _ (c .if3 .taken)
 
--- src/check.rt:100:6
 add-result-2 : tie.Need-add-result-2
 add-result-2 c = search needs
 
--- src/check.rt:100:19
 wide-requires : tie.Need-wide-requires
 wide-requires c κs = search needs
 
--- src/check.rt:100:5
 div-result : tie.Need-div-result
 div-result c = search needs
 
--- src/check.rt:87:1
 returns-4 : tie.Need-returns-4
 returns-4 c = ap (λ z. ((c .before .before .before .before) .args .scale + (c .before .before .before .before) .args .x) / z) (c .wide .ensures) ∙ push-some _ _ _ _ ((c .before .before) .if2 .left) ((c .before) .if3 .left)
 
