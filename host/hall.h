@@ -6,8 +6,8 @@
  *
  * A hall has n stops, 0 to n - 1, with n from 1 to 64, and one-way links that
  * cost 1 to 65,535. The host owns every table and buffer; a call keeps no
- * pointer and allocates nothing. Each table is passed as a pointer and the
- * number of its entries:
+ * pointer and allocates nothing, but needs up to 96 KiB of stack. Each table
+ * is passed as a pointer and the number of its entries:
  *
  *   cost   n x n, 32 bits   cost of the link u to v at u * n + v, 0 for none
  *   time   n x n, 32 bits   least time s to t, HALL_MARK where there is no route
@@ -15,9 +15,10 @@
  *   share  n x n, 64 bits   share of v in the quickest routes from s, times HALL_SCALE
  *   score  n,     64 bits   score of v: its shares added up over all sources
  *
- * Tables must not overlap. They may hold anything: a call refuses what it
- * cannot use. A call that refuses changes nothing that it was lent. Calls on
- * different tables may run at the same time; calls that share a table may not.
+ * Tables, images and buffers must not overlap. They may hold anything: a call
+ * refuses what it cannot use. A call that refuses changes nothing that it was
+ * lent. Calls on different tables may run at the same time; calls that share a
+ * table may not.
  *
  * Refusals, tested in rising order, each where the call has what it tests:
  *    0  accepted

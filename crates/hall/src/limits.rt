@@ -3,9 +3,8 @@ ghost use mathlib.Core.Path.{_≡_};
 ghost use Rattle.routes.specs.Route.{mark};
 ghost use Rattle.book.specs.Hall.{mostStops, largestCost, mostWays, scale, upTo};
 
-pub struct Hall {
-    pub stops: usize,
-}
+// The hall as the holder of its limits; its contents lie in lent tables.
+pub struct Hall {}
 
 impl Hall {
     // The most stops, the largest cost of a link, and the most ways of a pair.

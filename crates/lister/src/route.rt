@@ -1,6 +1,6 @@
 // A route, written as a decimal number: a 9, then a digit for each of its stops. The route 0, 2, 3
 // is 9023. No stop is above 7 and none is on a route twice, so a route has at most nine digits.
-ghost use Prim.Native.Nat.{_≤_, _<_};
+ghost use Prim.Native.Nat.{_≤_};
 
 // Where a table has its entry for u and v.
 pub fn cell(n: u64, u: u64, v: u64) -> usize

@@ -54,21 +54,9 @@ fn edit(before: &mut [u32], cost: &mut [u32], u: usize, v: usize, c: u32)
     line(b"touched", &answer, 2);
 }
 
-fn main() {
-    let mut former = [0u32; 16];
-    let mut present = [0u32; 16];
-    let before: &mut [u32] = &mut former;
-    let diamond: &mut [u32] = &mut present;
-    edit(before, diamond, 0, 1, 5);
-    edit(before, diamond, 0, 2, 5);
-    edit(before, diamond, 1, 3, 5);
-    edit(before, diamond, 2, 3, 5);
-    hall(diamond, 4, 16);
-    edit(before, diamond, 2, 3, 4);
-    hall(diamond, 4, 16);
-    edit(before, diamond, 2, 3, 0);
-    hall(diamond, 4, 16);
-    let ties = [
+// A hall of five stops with pairs of several ways and unreachable ones.
+fn ties() -> [u32; 25] {
+    [
         0u32,
         2,
         1,
@@ -94,6 +82,22 @@ fn main() {
         0,
         0,
         0,
-    ];
-    hall(&ties, 5, 25);
+    ]
+}
+
+fn main() {
+    let mut former = [0u32; 16];
+    let mut present = [0u32; 16];
+    let before: &mut [u32] = &mut former;
+    let diamond: &mut [u32] = &mut present;
+    edit(before, diamond, 0, 1, 5);
+    edit(before, diamond, 0, 2, 5);
+    edit(before, diamond, 1, 3, 5);
+    edit(before, diamond, 2, 3, 5);
+    hall(diamond, 4, 16);
+    edit(before, diamond, 2, 3, 4);
+    hall(diamond, 4, 16);
+    edit(before, diamond, 2, 3, 0);
+    hall(diamond, 4, 16);
+    hall(&ties(), 5, 25);
 }

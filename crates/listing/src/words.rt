@@ -2,7 +2,6 @@
 use crate::Line;
 use crate::Number;
 use book::Kind;
-ghost use Prim.Native.Nat.{_+_};
 ghost use mathlib.Core.Path.{_≡_};
 ghost use mathlib.Core.List.{[], _∷_};
 ghost use Rattle.routes.specs.Route.{same as Route·same};

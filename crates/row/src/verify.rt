@@ -156,7 +156,8 @@ fn push(limit: u32, scale: u64, w: u32, x: u64) -> u64
     (scale + x) / wide(w)
 }
 
-// What the links out of one stop give: the flow back over the tight ones, and whether one improves a time.
+// What the links out of one stop give: the flow back over the tight ones, and whether one of them, or of the stops before,
+// improves a time.
 pub struct Scanned {
     pub flow: u64,
     pub bad: bool,

@@ -302,7 +302,7 @@ pub fn start(stops: u64) -> Ask {
 fn strange(seed: &mut u64, x: u64) -> u64 {
     let kind = draw(seed, 4);
     match kind {
-        0 => 4294967295,
+        0 => 18446744073709551615,
         1 => draw(seed, 8),
         _ => wrapping_add_u64(x, 1 + draw(seed, 3)),
     }

@@ -35,7 +35,9 @@ struct State {
 fn note(tally: &mut [u64; ROOM], call: u64, said: Said, differ: u64, ties: bool) {
     tally::add_refusal(tally, call, said.refusal);
     add(tally, tally::ANSWERS, 1);
-    add(tally, tally::TABLES, 5);
+    if call != CHECK {
+        add(tally, tally::TABLES, 5);
+    }
     add(tally, tally::TOUCHED, said.rows);
     tally::add_differences(tally, differ);
     if ties {

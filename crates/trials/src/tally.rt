@@ -17,7 +17,7 @@ pub const TOUCHED: usize = 112;
 
 pub const TIES: usize = 113;
 
-// Calls on tables with a changed entry.
+// Calls on tables with an entry drawn anew, which may be the old one.
 pub const SPOILED: usize = 114;
 
 // The number of the first answer with a difference.
@@ -102,7 +102,7 @@ pub fn write(tally: &[u64; ROOM]) {
     line(b"tables", count(tally, TABLES));
     line(b"touched sources", count(tally, TOUCHED));
     line(b"accepted with ties", count(tally, TIES));
-    line(b"spoiled tables", count(tally, SPOILED));
+    line(b"entries drawn anew", count(tally, SPOILED));
     refusals(tally);
     refusals_of(b"empty hall", tally, 0);
     refusals_of(b"work out", tally, 1);

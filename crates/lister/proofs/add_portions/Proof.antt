@@ -5,9 +5,6 @@ use lib.ListN.{length}
 use borrow.Author.Needs.{needs}
 use Rattle.lister.proofs.add_portions.Statement.{statement}
 use Rattle.lister.proofs.add_portions.Tie as tie
-use Rattle.lister.proofs.add.Reads as add-reads
-use Rattle.lister.proofs.portion.Reads as portion-reads
-use Rattle.lister.proofs.route.cell.Reads as cell-reads
 
 abbrev Inv-loop : tie.InvT-loop
 Inv-loop n s t routes kept share₀ v₀ share v = (v ≤ n) × (length share ≡ length share₀)

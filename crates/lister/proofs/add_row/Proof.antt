@@ -5,9 +5,6 @@ use lib.ListN.{length}
 use borrow.Author.Needs.{needs}
 use Rattle.lister.proofs.add_row.Statement.{statement}
 use Rattle.lister.proofs.add_row.Tie as tie
-use Rattle.lister.proofs.add.Reads as add-reads
-use Rattle.lister.proofs.at.Reads as at-reads
-use Rattle.lister.proofs.route.cell.Reads as cell-reads
 
 abbrev Inv-loop : tie.InvT-loop
 Inv-loop n s share score₀ v₀ score v = (v ≤ n) × (length score ≡ length score₀)

@@ -5,7 +5,6 @@ use lib.ListN.{length}
 use borrow.Author.Needs.{needs}
 use Rattle.lister.proofs.clear.Statement.{statement}
 use Rattle.lister.proofs.clear.Tie as tie
-use Rattle.lister.proofs.put.Reads as put-reads
 
 abbrev Inv-loop : tie.InvT-loop
 Inv-loop table₀ i₀ i-end table i = (i ≤ i-end) × (length table ≡ length table₀)

@@ -5,7 +5,6 @@ use lib.ListN.{length}
 use borrow.Author.Needs.{needs}
 use Rattle.lister.proofs.row.Statement.{statement}
 use Rattle.lister.proofs.row.Tie as tie
-use Rattle.lister.proofs.pair.Reads as pair-reads
 
 abbrev Inv-loop : tie.InvT-loop
 Inv-loop cost n s routes₀ time₀ ways₀ share₀ t₀ routes time ways share t = (t ≤ n) × (length time ≡ length time₀) × (length ways ≡ length ways₀) × (length share ≡ length share₀)

@@ -5,10 +5,6 @@ use lib.ListN.{length}
 use borrow.Author.Needs.{needs}
 use Rattle.lister.proofs.tables.Statement.{statement}
 use Rattle.lister.proofs.tables.Tie as tie
-use Rattle.lister.proofs.add_row.Reads as add-row-reads
-use Rattle.lister.proofs.clear.Reads as clear-reads
-use Rattle.lister.proofs.few.Reads as few-reads
-use Rattle.lister.proofs.row.Reads as row-reads
 
 abbrev Inv-loop : tie.InvT-loop
 Inv-loop cost n time₀ ways₀ share₀ score₀ n' routes₀ s₀ time ways share score routes s = (s ≤ n') × (length time ≡ length time₀) × (length ways ≡ length ways₀) × (length share ≡ length share₀) × (length score ≡ length score₀)

@@ -3,8 +3,6 @@ use Prim.Native.Nat.{_-_, _≤_}
 use borrow.Author.Needs.{needs}
 use Rattle.lister.proofs.touched.Statement.{statement}
 use Rattle.lister.proofs.touched.Tie as tie
-use Rattle.lister.proofs.few.Reads as few-reads
-use Rattle.lister.proofs.touches.Reads as touches-reads
 
 abbrev Inv-loop : tie.InvT-loop
 Inv-loop before after n u v n' routes₀ set₀ s₀ routes set s = s ≤ n'

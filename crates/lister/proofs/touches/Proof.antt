@@ -3,8 +3,6 @@ use Prim.Native.Nat.{_-_, _≤_}
 use borrow.Author.Needs.{needs}
 use Rattle.lister.proofs.touches.Statement.{statement}
 use Rattle.lister.proofs.touches.Tie as tie
-use Rattle.lister.proofs.list.one_uses.Reads as one-uses-reads
-use Rattle.lister.proofs.list.quickest.Reads as quickest-reads
 
 abbrev Inv-loop : tie.InvT-loop
 Inv-loop cost n s u v routes₀ t₀ routes t = t ≤ n

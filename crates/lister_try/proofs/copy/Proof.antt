@@ -5,7 +5,6 @@ use lib.ListN.{length}
 use borrow.Author.Needs.{needs}
 use Rattle.lister_try.proofs.copy.Statement.{statement}
 use Rattle.lister_try.proofs.copy.Tie as tie
-use Rattle.lister_try.proofs.put.Reads as put-reads
 
 abbrev Inv-loop : tie.InvT-loop
 Inv-loop from to₀ i₀ i-end to i = (i ≤ i-end) × (length to ≡ length to₀)

@@ -3,7 +3,6 @@ use Prim.Native.Nat.{_-_, _≤_}
 use borrow.Author.Needs.{needs}
 use Rattle.lister_try.proofs.line.Statement.{statement}
 use Rattle.lister_try.proofs.line.Tie as tie
-use Rattle.lister_try.proofs.at.Reads as at-reads
 
 abbrev Inv-loop : tie.InvT-loop
 Inv-loop name table count i₀ t5 t6 i = i ≤ count

@@ -12,69 +12,49 @@ use Rattle.listing.specs.Running.{head-short, lengths-sized}
 use borrow.Author.Needs.{needs}
 use Rattle.listing.proofs.hall.Statement.{statement}
 use Rattle.listing.proofs.hall.Tie as tie
-use Rattle.listing.proofs.hall.Reads as reads
-use Rattle.listing.proofs.hall.Lts as lts
-use Rattle.listing.proofs.print.heading.Reads as heading-reads
-use Rattle.listing.proofs.run.start.Reads as start-reads
 
--- PRE
 few : (n : ℕ) → upTo mostStops n ≡ true → n ≤ 64
 few n e = leb-true n 64 (and-eq-true-iff (leb 1 n) (leb n 64) .0 e .1)
 
 square : (n : ℕ) → upTo mostStops n ≡ true → n * n ≤ 4096
 square n e = le-trans (mul-le-mul-left n (few n e)) (omega (arith, few n e))
 
--- END
-
--- src/lib.rt:59:17
 mul-cells : tie.Need-mul-cells
 mul-cells c = omega (arith, square ((c .before .before) .args .n) ((c .before .before) .pre .0))
 
--- src/lib.rt:60:9
 heading-requires : tie.Need-heading-requires
 heading-requires c κs = omega (arith, (c .before .before .before) .pre .1 .2, few ((c .before .before .before) .args .n) ((c .before .before .before) .pre .0), head-short ((c .before .before .before) .args .n) (omega (arith, few ((c .before .before .before) .args .n) ((c .before .before .before) .pre .0))))
 
--- src/lib.rt:61:41
 array-borrow-prefix-cost : tie.Need-array-borrow-prefix-cost
 array-borrow-prefix-cost c = square ((c .before .before .before .before .before .before .before) .args .n) ((c .before .before .before .before .before .before .before) .pre .0)
 
--- src/lib.rt:61:41
 slice-aggregate-start : tie.Need-slice-aggregate-start
 slice-aggregate-start c = sym (length-take-le _ _ (square ((c .before .before .before .before .before .before .before .before) .args .n) ((c .before .before .before .before .before .before .before .before) .pre .0)))
 
--- src/lib.rt:61:61
 array-borrow-prefix-time : tie.Need-array-borrow-prefix-time
 array-borrow-prefix-time c = square ((c .before .before .before .before .before .before .before .before) .args .n) ((c .before .before .before .before .before .before .before .before) .pre .0)
 
--- src/lib.rt:61:61
 slice-aggregate-start-2 : tie.Need-slice-aggregate-start-2
 slice-aggregate-start-2 c = sym (length-take-le _ _ (square ((c .before .before .before .before .before .before .before .before .before) .args .n) ((c .before .before .before .before .before .before .before .before .before) .pre .0)))
 
--- src/lib.rt:61:81
 array-borrow-prefix-ways : tie.Need-array-borrow-prefix-ways
 array-borrow-prefix-ways c = square ((c .before .before .before .before .before .before .before .before .before) .args .n) ((c .before .before .before .before .before .before .before .before .before) .pre .0)
 
--- src/lib.rt:61:81
 slice-aggregate-start-3 : tie.Need-slice-aggregate-start-3
 slice-aggregate-start-3 c = sym (length-take-le _ _ (square ((c .before .before .before .before .before .before .before .before .before .before) .args .n) ((c .before .before .before .before .before .before .before .before .before .before) .pre .0)))
 
--- src/lib.rt:61:101
 array-borrow-prefix-share : tie.Need-array-borrow-prefix-share
 array-borrow-prefix-share c = square ((c .before .before .before .before .before .before .before .before .before .before) .args .n) ((c .before .before .before .before .before .before .before .before .before .before) .pre .0)
 
--- src/lib.rt:61:101
 slice-aggregate-start-4 : tie.Need-slice-aggregate-start-4
 slice-aggregate-start-4 c = sym (length-take-le _ _ (square ((c .before .before .before .before .before .before .before .before .before .before .before) .args .n) ((c .before .before .before .before .before .before .before .before .before .before .before) .pre .0)))
 
--- src/lib.rt:61:122
 array-borrow-prefix-score : tie.Need-array-borrow-prefix-score
 array-borrow-prefix-score c = few ((c .before .before .before .before .before .before .before .before .before .before .before) .args .n) ((c .before .before .before .before .before .before .before .before .before .before .before) .pre .0)
 
--- src/lib.rt:61:122
 slice-aggregate-start-5 : tie.Need-slice-aggregate-start-5
 slice-aggregate-start-5 c = sym (length-take-le _ _ (few ((c .before .before .before .before .before .before .before .before .before .before .before .before) .args .n) ((c .before .before .before .before .before .before .before .before .before .before .before .before) .pre .0)))
 
--- src/lib.rt:61:5
 start-requires : tie.Need-start-requires
 start-requires c κs = let n = (c .before .before .before .before .before .before .before .before .before .before .before .before) .args .n in
     let size = (c .before .before .before .before .before .before .before .before .before .before .before .before) .pre .0 in
@@ -88,11 +68,9 @@ start-requires c κs = let n = (c .before .before .before .before .before .befor
       ),
     )
 
--- src/lib.rt:48:1
 same-length : tie.Need-same-length
 same-length c = search needs
 
--- src/lib.rt:48:1
 returns : tie.Need-returns
 returns c = then ((c .before .before .before .before .before .before .before .before .before .before .before .before .before .before .before .before) .heading .ensures) ((c .before .before .before .before .before .before .before) .start .ensures)
 

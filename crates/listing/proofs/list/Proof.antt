@@ -11,64 +11,44 @@ use Rattle.listing.specs.Whole.{wrote-none, wrote-printed, too-long, by-
 use borrow.Author.Needs.{needs}
 use Rattle.listing.proofs.list.Statement.{statement}
 use Rattle.listing.proofs.list.Tie as tie
-use Rattle.listing.proofs.list.Reads as reads
-use Rattle.listing.proofs.list.Lts as lts
-use Rattle.hall.proofs.limits.Hall.takes.Reads as takes-reads
-use Rattle.listing.proofs.hall.Reads as hall-reads
-use Rattle.listing.proofs.print.put.Reads as put-reads
-use Rattle.listing.proofs.words.cut.Reads as cut-reads
-use Rattle.listing.proofs.words.hall_of.Reads as hall-of-reads
 
--- src/lib.rt:69:9
 returns : tie.Need-returns
 returns c = wrote-none ((c .before .before .before) .args .input .now) ((c .before .before .before) .args .output .now) (c .if1 .taken)
 
--- src/lib.rt:75:30
 slice-aggregate-put : tie.Need-slice-aggregate-put
 slice-aggregate-put c = search needs
 
--- src/lib.rt:75:13
 put-requires : tie.Need-put-requires
 put-requires c κs = search needs
 
--- src/lib.rt:76:9
 same-length : tie.Need-same-length
 same-length c = search needs
 
--- src/lib.rt:76:9
 returns-2 : tie.Need-returns-2
 unfolding bytes
 returns-2 c = wrote-printed ((c .before .before .before .before .before .before .before .before .before) .args .input .now) ((c .before .before .before .before .before .before .before .before .before) .args .output .now) _ _ ((c .before .before .before .before .before .before) .if1 .left) (rw (too-long ((c .before .before .before .before .before .before .before .before .before) .args .input .now) ((c .before .before .before .before .before) .if2 .taken)) ((c .before .before) .put .ensures))
 
--- src/lib.rt:81:9
 cut-requires : tie.Need-cut-requires
 cut-requires c κs = search needs
 
--- src/lib.rt:82:28
 slice-aggregate-hall-of : tie.Need-slice-aggregate-hall-of
 slice-aggregate-hall-of c = sym (length-take-le _ _ (omega (arith, (c .before) .cut .ensures, cut-within 10 ((c .before .before .before .before .before .before) .args .input .now))))
 
--- src/lib.rt:82:9
 hall-of-requires : tie.Need-hall-of-requires
 hall-of-requires c κs = search needs
 
--- src/lib.rt:83:9
 takes-requires : tie.Need-takes-requires
 takes-requires c κs = search needs
 
--- src/lib.rt:84:30
 slice-aggregate-put-2 : tie.Need-slice-aggregate-put-2
 slice-aggregate-put-2 c = search needs
 
--- src/lib.rt:84:13
 put-requires-2 : tie.Need-put-requires-2
 put-requires-2 c κs = search needs
 
--- src/lib.rt:85:9
 same-length-2 : tie.Need-same-length-2
 same-length-2 c = search needs
 
--- src/lib.rt:85:9
 returns-3 : tie.Need-returns-3
 unfolding bytes
 returns-3 c = let input = (c .before .before .before .before .before .before .before .before .before .before .before .before .before .before) .args .input .now in
@@ -77,19 +57,15 @@ returns-3 c = let input = (c .before .before .before .before .before .before .be
     let text : listing input ≡ bytes "no hall\n" = by-hall input ((c .before .before .before .before .before .before .before .before .before) .cut .result) ((c .before .before .before .before .before .before .before .before .before .before) .if2 .left) ((c .before .before .before .before .before .before .before .before .before) .cut .ensures) ∙ rw none in
     wrote-printed input ((c .before .before .before .before .before .before .before .before .before .before .before .before .before .before) .args .output .now) _ _ ((c .before .before .before .before .before .before .before .before .before .before .before) .if1 .left) (rw text ((c .before .before) .put2 .ensures))
 
--- src/lib.rt:90:30
 add-hall : tie.Need-add-hall
 add-hall c = omega (arith, (c .before .before .before .before) .cut .ensures, cut-within 10 ((c .before .before .before .before .before .before .before .before .before) .args .input .now), (c .before .before .before .before .before) .if2 .left)
 
--- src/lib.rt:90:9
 hall-requires : tie.Need-hall-requires
 hall-requires c κs = (sym ((c .before .before) .takes .ensures) ∙ not-false ((c .before .before) .takes .result) ((c .before) .if3 .left), ((c .before .before .before .before .before .before) .if2 .left, omega (arith, (c .before .before .before .before .before) .cut .ensures, cut-within 10 ((c .before .before .before .before .before .before .before .before .before .before) .args .input .now)), (c .before .before .before .before .before .before .before) .if1 .left))
 
--- src/lib.rt:65:1
 same-length-3 : tie.Need-same-length-3
 same-length-3 c = search needs
 
--- src/lib.rt:65:1
 returns-4 : tie.Need-returns-4
 returns-4 c = let input = (c .before .before .before .before .before .before .before .before .before .before .before .before .before) .args .input .now in
     let some : upTo mostStops (hallOf (words (take ((c .before .before .before .before .before .before .before .before) .cut .result) input))) ≡ true =

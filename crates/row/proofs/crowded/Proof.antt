@@ -8,8 +8,6 @@ use Rattle.routes.specs.Route.{allTo}
 use Rattle.row.specs.Whole.{within, crowded-none, crowded-more}
 use Rattle.row.proofs.crowded.Statement.{statement}
 use Rattle.row.proofs.crowded.Tie as tie
-use Rattle.row.proofs.crowded.Reads as reads
-use Rattle.row.proofs.crowded.Lts as lts
 
 abbrev Inv-loop : tie.InvT-loop
 Inv-loop limit ways over₀ t₀ t-end over t = (t ≤ length ways) × (over ≡ not (allTo t (within limit ways)))
@@ -17,31 +15,24 @@ Inv-loop limit ways over₀ t₀ t-end over t = (t ≤ length ways) × (over ≡
 abbrev μ-loop : tie.MeasureT-loop
 μ-loop limit ways over₀ t₀ t-end over t = length ways - t
 
--- src/lib.rt:69:5
 loop-holds : tie.Need-loop-holds Inv-loop μ-loop
 loop-holds c = (omega arith, crowded-none (c .args .limit) (c .args .ways .now))
 
--- src/lib.rt:70:25
 mul-over : tie.Need-mul-over Inv-loop μ-loop
 mul-over c = omega (arith, (c .before .before) .good)
 
--- src/lib.rt:70:25
 shared-slice-read-over : tie.Need-shared-slice-read-over Inv-loop μ-loop
 shared-slice-read-over c = omega arith
 
--- src/lib.rt:69:9
 add-t : tie.Need-add-t Inv-loop μ-loop
 add-t c = omega arith
 
--- src/lib.rt:69:5
 loop-less : tie.Need-loop-less Inv-loop μ-loop
 loop-less c = omega arith
 
--- src/lib.rt:69:5
 loop-again : tie.Need-loop-again Inv-loop μ-loop
 loop-again c = (omega arith, rw ((c .before .before) .loop .inv .1) (sym (crowded-more ((c .before .before .before) .args .limit) ((c .before .before) .loop .t) ((c .before .before .before) .args .ways .now))))
 
--- src/lib.rt:65:1
 returns : tie.Need-returns Inv-loop μ-loop
 returns c = rw (le-antisymm ((c .before) .loop .inv .0) (c .loop-test .left)) at ((c .before) .loop .inv .1)
 

@@ -5,8 +5,6 @@ use lib.ListN.{length}
 use Rattle.row.specs.Whole.{Wiped, wiped-starts, wiped-goes}
 use Rattle.row.proofs.wipe.Statement.{statement}
 use Rattle.row.proofs.wipe.Tie as tie
-use Rattle.row.proofs.wipe.Reads as reads
-use Rattle.row.proofs.wipe.Lts as lts
 
 abbrev Inv-loop : tie.InvT-loop
 Inv-loop list₀ x t₀ t-end list t = (t ≤ length list₀) × Wiped x t list₀ list
@@ -14,35 +12,27 @@ Inv-loop list₀ x t₀ t-end list t = (t ≤ length list₀) × Wiped x t list�
 abbrev μ-loop : tie.MeasureT-loop
 μ-loop list₀ x t₀ t-end list t = length list₀ - t
 
--- src/lib.rt:50:5
 loop-holds : tie.Need-loop-holds Inv-loop μ-loop
 loop-holds c = (omega arith, wiped-starts _ _)
 
--- src/lib.rt:51:9
 mul-list : tie.Need-mul-list Inv-loop μ-loop
 mul-list c = omega (arith, (c .before .before) .good)
 
--- src/lib.rt:51:9
 slice-write-list : tie.Need-slice-write-list Inv-loop μ-loop
 slice-write-list c = omega (arith, (c .before) .loop .inv .1 .long)
 
--- src/lib.rt:50:9
 add-t : tie.Need-add-t Inv-loop μ-loop
 add-t c = omega arith
 
--- src/lib.rt:50:5
 loop-less : tie.Need-loop-less Inv-loop μ-loop
 loop-less c = omega arith
 
--- src/lib.rt:50:5
 loop-again : tie.Need-loop-again Inv-loop μ-loop
 loop-again c = (omega arith, wiped-goes _ _ _ _ (c .loop-test .taken) ((c .before) .loop .inv .1))
 
--- src/lib.rt:47:1
 same-length : tie.Need-same-length Inv-loop μ-loop
 same-length c = (c .before) .loop .inv .1 .long
 
--- src/lib.rt:47:1
 returns : tie.Need-returns Inv-loop μ-loop
 returns c = rw (le-antisymm ((c .before) .loop .inv .0) (c .loop-test .left)) at ((c .before) .loop .inv .1)
 

@@ -5,9 +5,6 @@ use mathlib.Core.Logic.{⊎-elim}
 use borrow.Author.Needs.{needs}
 use Rattle.lister.proofs.list.keep.Statement.{statement}
 use Rattle.lister.proofs.list.keep.Tie as tie
-use Rattle.lister.proofs.list.at.Reads as at-reads
-use Rattle.lister.proofs.list.note.Reads as note-reads
-use Rattle.lister.proofs.route.time.Reads as time-reads
 
 abbrev Inv-loop : tie.InvT-loop
 Inv-loop cost n list₀ count taken kept₀ i₀ list kept i = (i ≤ count) × (kept ≤ 1957)

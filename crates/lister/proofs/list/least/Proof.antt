@@ -3,8 +3,6 @@ use Prim.Native.Nat.{_-_, _≤_}
 use borrow.Author.Needs.{needs}
 use Rattle.lister.proofs.list.least.Statement.{statement}
 use Rattle.lister.proofs.list.least.Tie as tie
-use Rattle.lister.proofs.list.at.Reads as at-reads
-use Rattle.lister.proofs.route.time.Reads as time-reads
 
 abbrev Inv-loop : tie.InvT-loop
 Inv-loop cost n list count best₀ i₀ best i = i ≤ count

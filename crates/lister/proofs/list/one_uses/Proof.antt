@@ -3,8 +3,6 @@ use Prim.Native.Nat.{_-_, _≤_}
 use borrow.Author.Needs.{needs}
 use Rattle.lister.proofs.list.one_uses.Statement.{statement}
 use Rattle.lister.proofs.list.one_uses.Tie as tie
-use Rattle.lister.proofs.list.at.Reads as at-reads
-use Rattle.lister.proofs.route.uses.Reads as uses-reads
 
 abbrev Inv-loop : tie.InvT-loop
 Inv-loop list kept u v i₀ i = i ≤ kept

@@ -5,8 +5,6 @@ use mathlib.Core.Logic.{⊎-elim}
 use borrow.Author.Needs.{needs}
 use Rattle.lister.proofs.list.through.Statement.{statement}
 use Rattle.lister.proofs.list.through.Tie as tie
-use Rattle.lister.proofs.list.at.Reads as at-reads
-use Rattle.lister.proofs.route.stops_at.Reads as stops-at-reads
 
 abbrev Inv-loop : tie.InvT-loop
 Inv-loop list kept v number₀ i₀ number i = (i ≤ kept) × (number ≤ i)

@@ -2,7 +2,6 @@
 use borrow.Author.Needs.{needs}
 use Rattle.lister.proofs.route.time.Statement.{statement}
 use Rattle.lister.proofs.route.time.Tie as tie
-use Rattle.lister.proofs.route.link.Reads as link-reads
 
 abbrev Inv-loop : tie.InvT-loop
 Inv-loop cost n route sum₀ rest₀ sum rest = Unit {0}

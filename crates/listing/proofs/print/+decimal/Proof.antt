@@ -22,67 +22,54 @@ decimal-at t = and 1 decimal-kinds.ps (is 1 decimal-kinds.ps μ-decimal t) decim
 abbrev decimal-below : ℕ → In 1 decimal-kinds.ps
 decimal-below t = and 1 decimal-kinds.ps (falls 1 decimal-kinds.ps _<_ μ-decimal t) decimal.Pre
 
--- PRE
 decimal-longer : (x : ℕ) → 10 ≤ x → x < 2 ^ 64 → length (text x) ≡ length (text (x / 10)) + 1
 decimal-longer x l h = ap length (decimal-large x l h) ∙ length-append (text (x / 10)) ((48 + x % 10) ∷ [])
 
--- END
-
--- src/print.rt:27:24
 decimal-cast-out :
     (t : ℕ) →
     decimal-lts.Need-cast-out (decimal-below t, decimal.Post) (decimal-at t) decimal.Post
 decimal-cast-out t c = omega arith
 
--- src/print.rt:27:19
 decimal-add-out :
     (t : ℕ) → decimal-lts.Need-add-out (decimal-below t, decimal.Post) (decimal-at t) decimal.Post
 decimal-add-out t c = omega arith
 
--- src/print.rt:27:9
 decimal-slice-write-out : (t : ℕ) → decimal-lts.Need-slice-write-out (
   decimal-below t,
   decimal.Post,
 ) (decimal-at t) decimal.Post
 decimal-slice-write-out t c = omega (arith, (c .before .before) .pre .1, ap length (decimal-small ((c .before .before) .args .x) (c .if1 .taken)))
 
--- src/print.rt:28:16
 decimal-add-result :
     (t : ℕ) →
     decimal-lts.Need-add-result (decimal-below t, decimal.Post) (decimal-at t) decimal.Post
 decimal-add-result t c = omega arith
 
--- src/print.rt:28:9
 decimal-same-length :
     (t : ℕ) →
     decimal-lts.Need-same-length (decimal-below t, decimal.Post) (decimal-at t) decimal.Post
 decimal-same-length t c = simp length-set
 
--- src/print.rt:28:9
 decimal-returns :
     (t : ℕ) → decimal-lts.Need-returns (decimal-below t, decimal.Post) (decimal-at t) decimal.Post
 decimal-returns t c = let e = decimal-small ((c .before .before) .args .x) (c .if1 .taken) in rw e (record { behind = refl; written = refl; inside = omega (arith, (c .before .before) .pre .1, ap length e) })
 
--- src/print.rt:30:9
 decimal-decimal-requires : (t : ℕ) → decimal-lts.Need-decimal-requires (
   decimal-below t,
   decimal.Post,
 ) (decimal-at t) decimal.Post
 decimal-decimal-requires t c κs = (omega (arith, (c .before .before .before) .pre .0), omega (arith, (c .before .before .before) .pre .1, decimal-longer ((c .before .before .before) .args .x) (omega arith) (omega arith)))
 
--- src/print.rt:31:21
 decimal-cast-out-2 :
     (t : ℕ) →
     decimal-lts.Need-cast-out-2 (decimal-below t, decimal.Post) (decimal-at t) decimal.Post
 decimal-cast-out-2 t c = omega arith
 
--- src/print.rt:31:16
 decimal-add-out-2 :
     (t : ℕ) →
     decimal-lts.Need-add-out-2 (decimal-below t, decimal.Post) (decimal-at t) decimal.Post
 decimal-add-out-2 t c = omega arith
 
--- src/print.rt:31:5
 decimal-slice-write-out-2 : (t : ℕ) → decimal-lts.Need-slice-write-out-2 (
   decimal-below t,
   decimal.Post,
@@ -90,20 +77,17 @@ decimal-slice-write-out-2 : (t : ℕ) → decimal-lts.Need-slice-write-out-2 (
 decimal-slice-write-out-2 t c = let p = (c .before .before) .decimal .ensures in
     omega (arith, (c .before .before .before .before .before .before) .pre .1, p .behind, (c .before .before) .decimal .kept .1 .0, decimal-longer ((c .before .before .before .before .before .before) .args .x) (omega arith) (omega arith))
 
--- src/print.rt:32:5
 decimal-add-result-2 :
     (t : ℕ) →
     decimal-lts.Need-add-result-2 (decimal-below t, decimal.Post) (decimal-at t) decimal.Post
 decimal-add-result-2 t c = let p = (c .before .before) .decimal .ensures in
     omega (arith, (c .before .before .before .before .before .before) .pre .1, p .behind, decimal-longer ((c .before .before .before .before .before .before) .args .x) (omega arith) (omega arith))
 
--- src/print.rt:22:1
 decimal-same-length-2 :
     (t : ℕ) →
     decimal-lts.Need-same-length-2 (decimal-below t, decimal.Post) (decimal-at t) decimal.Post
 decimal-same-length-2 t c = simp length-set ((c .before .before) .decimal .kept .1 .0)
 
--- src/print.rt:22:1
 decimal-returns-2 :
     (t : ℕ) →
     decimal-lts.Need-returns-2 (decimal-below t, decimal.Post) (decimal-at t) decimal.Post

@@ -6,8 +6,6 @@ use lib.ListN.{length, getD, set, drop, length-set, drop-of-length-le}
 use lib.Seq.{sets, drop-cons}
 use Rattle.listing.proofs.print.put.Statement.{statement}
 use Rattle.listing.proofs.print.put.Tie as tie
-use Rattle.listing.proofs.print.put.Reads as reads
-use Rattle.listing.proofs.print.put.Lts as lts
 
 abbrev Inv-loop : tie.InvT-loop
 Inv-loop text out₀ at i₀ out i = (i ≤ length text) × (length out ≡ length out₀) × (sets out (at + i) (drop i text) ≡ sets out₀ at text)
@@ -15,33 +13,26 @@ Inv-loop text out₀ at i₀ out i = (i ≤ length text) × (length out ≡ leng
 abbrev μ-loop : tie.MeasureT-loop
 μ-loop text out₀ at i₀ out i = length text - i
 
--- src/print.rt:15:5
 loop-holds : tie.Need-loop-holds Inv-loop μ-loop
 loop-holds c = let at = c .args .at in
     let e : at + 0 ≡ at = omega arith in
     (omega arith, refl, ap (λ k. sets (c .args .out .now) k (c .args .text .now)) e)
 
--- src/print.rt:16:23
 shared-slice-read-out : tie.Need-shared-slice-read-out Inv-loop μ-loop
 shared-slice-read-out c = omega arith
 
--- src/print.rt:16:13
 add-out : tie.Need-add-out Inv-loop μ-loop
 add-out c = omega (arith, (c .before .before .before) .pre)
 
--- src/print.rt:16:9
 slice-write-out : tie.Need-slice-write-out Inv-loop μ-loop
 slice-write-out c = omega (arith, (c .before .before .before) .pre)
 
--- src/print.rt:17:9
 add-i : tie.Need-add-i Inv-loop μ-loop
 add-i c = omega arith
 
--- src/print.rt:15:5
 loop-less : tie.Need-loop-less Inv-loop μ-loop
 loop-less c = omega arith
 
--- src/print.rt:15:5
 loop-again : tie.Need-loop-again Inv-loop μ-loop
 loop-again c = let text = (c .before .before .before) .args .text .now in
     let at = (c .before .before .before) .args .at in
@@ -51,15 +42,12 @@ loop-again c = let text = (c .before .before .before) .args .text .now in
     rw (add-one i, drop-cons text i 0 ((c .before) .loop-test .taken)) (ap (λ k. sets (set out (at + i) (getD text i 0)) k (drop (suc i) text)) (omega arith)) in
     (omega arith, simp length-set ((c .before .before) .loop .inv .1), next ∙ (c .before .before) .loop .inv .2)
 
--- src/print.rt:19:5
 add-result : tie.Need-add-result Inv-loop μ-loop
 add-result c = omega (arith, (c .before .before) .pre)
 
--- src/print.rt:10:1
 same-length : tie.Need-same-length Inv-loop μ-loop
 same-length c = (c .before) .loop .inv .1
 
--- src/print.rt:10:1
 returns : tie.Need-returns Inv-loop μ-loop
 returns c = let text = (c .before .before) .args .text .now in
     let i = (c .before) .loop .i in

@@ -4,27 +4,19 @@ use Rattle.listing.specs.Running.{sized-standing, right-standing, edit-s
 use borrow.Author.Needs.{needs}
 use Rattle.listing.proofs.run.edit.Statement.{statement}
 use Rattle.listing.proofs.run.edit.Tie as tie
-use Rattle.listing.proofs.run.edit.Reads as reads
-use Rattle.listing.proofs.run.edit.Lts as lts
-use Rattle.listing.proofs.print.answer.Reads as answer-reads
 
--- src/run.rt:42:9
 edit-right-requires : tie.Need-edit-right-requires
 edit-right-requires c κs = let s = (c .before .before .before .before .before .before .before .before .before .before .before) .pre .0 in (s .held .size, (sized-standing s, right-standing s))
 
--- src/run.rt:45:22
 code-requires : tie.Need-code-requires
 code-requires c κs = search needs
 
--- src/run.rt:45:22
 cast-answer : tie.Need-cast-answer
 cast-answer c = search needs
 
--- src/run.rt:45:50
 cast-answer-2 : tie.Need-cast-answer-2
 cast-answer-2 c = search needs
 
--- src/run.rt:45:5
 answer-requires : tie.Need-answer-requires
 answer-requires c κs = let s = (c .before .before .before .before .before .before .before .before .before .before .before .before .before .before .before .before .before .before .before .before .before .before .before .before) .pre .0 in
     let a = (c .before .before .before .before .before .before .before .before .before .before .before .before .before .before .before .before .before .before .before .before .before .before .before .before) .args in
@@ -32,31 +24,24 @@ answer-requires c κs = let s = (c .before .before .before .before .before .befo
     let short = short-line s (a .i) (Edit (a .kind) (a .u) (a .v) (a .c)) ((c .before .before .before .before .before .before .before .before .before .before .before .before .before .before .before .before .before .before .before .before .before .before .before .before) .pre .1 .0) in
     rw ((c .before) .code .ensures) (omega (arith, (c .before .before .before .before .before .before .before .before .before .before .before .before .before .before .before .before .before .before .before .before .before .before .before .before) .pre .1 .1, rw text at short))
 
--- src/run.rt:17:1
 same-length : tie.Need-same-length
 same-length c = search needs
 
--- src/run.rt:17:1
 same-length-2 : tie.Need-same-length-2
 same-length-2 c = search needs
 
--- src/run.rt:17:1
 same-length-3 : tie.Need-same-length-3
 same-length-3 c = search needs
 
--- src/run.rt:17:1
 same-length-4 : tie.Need-same-length-4
 same-length-4 c = search needs
 
--- src/run.rt:17:1
 same-length-5 : tie.Need-same-length-5
 same-length-5 c = search needs
 
--- src/run.rt:17:1
 same-length-6 : tie.Need-same-length-6
 same-length-6 c = search needs
 
--- src/run.rt:17:1
 returns : tie.Need-returns
 returns c = let s = (c .before .before .before .before .before .before .before .before .before .before .before .before .before .before .before .before .before .before .before .before .before .before .before .before .before .before .before) .pre .0 in
     let a = (c .before .before .before .before .before .before .before .before .before .before .before .before .before .before .before .before .before .before .before .before .before .before .before .before .before .before .before) .args in

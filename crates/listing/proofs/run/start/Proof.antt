@@ -2,43 +2,31 @@ use Rattle.listing.specs.Running.{standing-none}
 use borrow.Author.Needs.{needs}
 use Rattle.listing.proofs.run.start.Statement.{statement}
 use Rattle.listing.proofs.run.start.Tie as tie
-use Rattle.listing.proofs.run.start.Reads as reads
-use Rattle.listing.proofs.run.start.Lts as lts
-use Rattle.listing.proofs.run.run.Reads as run-reads
 
--- src/run.rt:147:5
 empty-hall-requires : tie.Need-empty-hall-requires
 empty-hall-requires c κs = search needs
 
--- src/run.rt:148:5
 run-requires : tie.Need-run-requires
 run-requires c κs = (standing-none _ _ _ _ ((c .before .before .before .before .before .before .before .before .before .before .before .before .before .before .before .before .before .before .before .before .before .before .before .before .before .before .before .before .before) .pre .0) ((c .before .before .before .before .before .before .before .before .before .before .before .before .before .before .before .before .before .before .before .before .before .before .before .before .before .before .before .before .before) .pre .1 .0) ((c .before .before .before .before .before .before .before .before .before .before .before .before .before .before .before .before) .empty-hall .ensures) .1, (c .before .before .before .before .before .before .before .before .before .before .before .before .before .before .before .before .before .before .before .before .before .before .before .before .before .before .before .before .before) .pre .1 .1)
 
--- src/run.rt:130:1
 same-length : tie.Need-same-length
 same-length c = search needs
 
--- src/run.rt:130:1
 same-length-2 : tie.Need-same-length-2
 same-length-2 c = search needs
 
--- src/run.rt:130:1
 same-length-3 : tie.Need-same-length-3
 same-length-3 c = search needs
 
--- src/run.rt:130:1
 same-length-4 : tie.Need-same-length-4
 same-length-4 c = search needs
 
--- src/run.rt:130:1
 same-length-5 : tie.Need-same-length-5
 same-length-5 c = search needs
 
--- src/run.rt:130:1
 same-length-6 : tie.Need-same-length-6
 same-length-6 c = search needs
 
--- src/run.rt:130:1
 returns : tie.Need-returns
 returns c = let e = standing-none _ _ _ _ ((c .before .before .before .before .before .before .before .before .before .before .before .before .before .before .before .before .before .before .before .before .before .before .before .before .before .before .before .before .before .before .before .before .before .before .before .before .before .before .before .before .before .before) .pre .0) ((c .before .before .before .before .before .before .before .before .before .before .before .before .before .before .before .before .before .before .before .before .before .before .before .before .before .before .before .before .before .before .before .before .before .before .before .before .before .before .before .before .before .before) .pre .1 .0) ((c .before .before .before .before .before .before .before .before .before .before .before .before .before .before .before .before .before .before .before .before .before .before .before .before .before .before .before .before .before) .empty-hall .ensures) .0 in
     rw e at ((c .before .before .before .before .before .before .before .before .before .before .before .before) .run .ensures)

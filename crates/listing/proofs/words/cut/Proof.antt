@@ -7,8 +7,6 @@ use lib.ListN.{length, drop, drop-of-length-le}
 use Rattle.listing.specs.Reading.{cutAt, cut-here, cut-on}
 use Rattle.listing.proofs.words.cut.Statement.{statement}
 use Rattle.listing.proofs.words.cut.Tie as tie
-use Rattle.listing.proofs.words.cut.Reads as reads
-use Rattle.listing.proofs.words.cut.Lts as lts
 
 abbrev Inv-loop : tie.InvT-loop
 Inv-loop text d i₀ i = (i ≤ length text) × (cutAt d text ≡ i + cutAt d (drop i text))

@@ -11,12 +11,7 @@ use Rattle.listing.specs.Reading.{number-is, number-not}
 use borrow.Author.Needs.{needs}
 use Rattle.listing.proofs.words.four.Statement.{statement}
 use Rattle.listing.proofs.words.four.Tie as tie
-use Rattle.listing.proofs.words.four.Reads as reads
-use Rattle.listing.proofs.words.four.Lts as lts
-use Rattle.listing.proofs.words.number.Reads as number-reads
-use Rattle.listing.proofs.words.same.Reads as same-reads
 
--- PRE
 -- with three numbers the line is what its kind says
 told : (c : tie.After-known-told3) →
     let args = (c .before .before .before .before .before .before .before .before .before .before .before .before .before .before .before .before) .args in
@@ -31,86 +26,65 @@ told c =
     let (isC, valueC) = number-is (args .c .now) _ (sym ((c .before .before .before) .number3 .ensures) ∙ (c .before) .x .given .1) in
     rw (isU, isV, isC, valueU, valueV, valueC)
 
--- END
-
--- src/words.rt:123:28
 number-requires : tie.Need-number-requires
 number-requires c κs = search needs
 
--- src/words.rt:123:23
 enum-known-a : tie.Need-enum-known-a
 enum-known-a c = search needs
 
--- src/words.rt:124:9
 enum-told : tie.Need-enum-told
 enum-told c = search needs
 
--- src/words.rt:124:9
 returns : tie.Need-returns
 unfolding lineOf
 returns c = simp (number-not ((c .before .before .before .before .before .before .before) .args .u .now) (sym ((c .before .before) .number .ensures) ∙ c .enum-told .given .1), and-false)
 
--- src/words.rt:126:28
 number-requires-2 : tie.Need-number-requires-2
 number-requires-2 c κs = search needs
 
--- src/words.rt:126:23
 enum-known-b : tie.Need-enum-known-b
 enum-known-b c = search needs
 
--- src/words.rt:127:9
 enum-told-2 : tie.Need-enum-told-2
 enum-told-2 c = search needs
 
--- src/words.rt:127:9
 returns-2 : tie.Need-returns-2
 unfolding lineOf
 returns-2 c = simp (number-not ((c .before .before .before .before .before .before .before .before .before .before .before) .args .v .now) (sym ((c .before .before) .number2 .ensures) ∙ c .enum-told2 .given .1), and-false)
 
--- src/words.rt:129:28
 number-requires-3 : tie.Need-number-requires-3
 number-requires-3 c κs = search needs
 
--- src/words.rt:129:23
 enum-known-x : tie.Need-enum-known-x
 enum-known-x c = search needs
 
--- src/words.rt:130:9
 enum-told-3 : tie.Need-enum-told-3
 enum-told-3 c = search needs
 
--- src/words.rt:130:9
 returns-3 : tie.Need-returns-3
 unfolding lineOf
 returns-3 c = simp (number-not ((c .before .before .before .before .before .before .before .before .before .before .before .before .before .before .before) .args .c .now) (sym ((c .before .before) .number3 .ensures) ∙ c .enum-told3 .given .1), and-false)
 
--- src/words.rt:132:19
 slice-aggregate-same : tie.Need-slice-aggregate-same
 slice-aggregate-same c = search needs
 
--- src/words.rt:132:8
 same-requires : tie.Need-same-requires
 same-requires c κs = search needs
 
--- src/words.rt:133:9
 returns-4 : tie.Need-returns-4
 unfolding bytes
 returns-4 c = sym (told (c .before .before .before) ∙ rw (sym ((c .before) .same .ensures) ∙ c .if1 .taken))
 
--- src/words.rt:140:19
 slice-aggregate-same-2 : tie.Need-slice-aggregate-same-2
 slice-aggregate-same-2 c = search needs
 
--- src/words.rt:140:8
 same-requires-2 : tie.Need-same-requires-2
 same-requires-2 c κs = search needs
 
--- src/words.rt:141:9
 returns-5 : tie.Need-returns-5
 unfolding bytes
 returns-5 c = sym (told (c .before .before .before .before .before .before) ∙ rw (sym ((c .before .before .before .before) .same .ensures) ∙ (c .before .before .before) .if1 .left, sym ((c .before) .same2 .ensures) ∙ c .if2 .taken))
 
--- src/words.rt:120:1
 returns-6 : tie.Need-returns-6
 unfolding bytes
 returns-6 c = sym (told (c .before .before .before .before .before .before) ∙ rw (sym ((c .before .before .before .before) .same .ensures) ∙ (c .before .before .before) .if1 .left, sym ((c .before) .same2 .ensures) ∙ c .if2 .left))

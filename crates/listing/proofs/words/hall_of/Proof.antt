@@ -11,13 +11,7 @@ use Rattle.listing.specs.Reading.{from, word-first, word-last, word-some
 use borrow.Author.Needs.{needs}
 use Rattle.listing.proofs.words.hall_of.Statement.{statement}
 use Rattle.listing.proofs.words.hall_of.Tie as tie
-use Rattle.listing.proofs.words.hall_of.Reads as reads
-use Rattle.listing.proofs.words.hall_of.Lts as lts
-use Rattle.listing.proofs.words.cut.Reads as cut-reads
-use Rattle.listing.proofs.words.number.Reads as number-reads
-use Rattle.listing.proofs.words.same.Reads as same-reads
 
--- PRE
 -- a line of two words
 two : (c : tie.Else2) →
     let line = (c .before .before .before .before .before .before) .args .line .now in
@@ -29,38 +23,28 @@ two c =
     let k = (c .before .before .before .before) .cut .result in
     rw (word-first line k ((c .before .before .before .before) .cut .ensures) ((c .before .before .before) .if1 .left), word-last (from (k + 1) line) (omega (arith, (c .before) .cut2 .ensures)))
 
--- END
-
--- src/words.rt:81:9
 cut-requires : tie.Need-cut-requires
 cut-requires c κs = search needs
 
--- src/words.rt:83:9
 returns : tie.Need-returns
 unfolding hallOf
 returns c = rw (word-last ((c .before .before .before) .args .line .now) (omega (arith, (c .before) .cut .ensures)))
 
--- src/words.rt:85:22
 add-rest : tie.Need-add-rest
 add-rest c = search needs
 
--- src/words.rt:85:16
 sub-rest : tie.Need-sub-rest
 sub-rest c = search needs
 
--- src/words.rt:85:16
 part-rest-start : tie.Need-part-rest-start
 part-rest-start c = search needs
 
--- src/words.rt:85:16
 part-rest-end : tie.Need-part-rest-end
 part-rest-end c = search needs
 
--- src/words.rt:86:8
 cut-requires-2 : tie.Need-cut-requires-2
 cut-requires-2 c κs = search needs
 
--- src/words.rt:87:9
 returns-2 : tie.Need-returns-2
 unfolding hallOf
 returns-2 c = let line = (c .before .before .before .before .before .before) .args .line .now in
@@ -70,42 +54,33 @@ returns-2 c = let line = (c .before .before .before .before .before .before) .ar
     let (w, ws, e) = word-some (from (u + 1) rest) in
     rw (word-first line k ((c .before .before .before .before) .cut .ensures) ((c .before .before .before) .if1 .left), word-first rest u ((c .before) .cut2 .ensures) (c .if2 .taken), e)
 
--- src/words.rt:89:14
 slice-aggregate-same : tie.Need-slice-aggregate-same
 slice-aggregate-same c = sym (length-take-le _ _ (omega arith))
 
--- src/words.rt:89:26
 slice-aggregate-same-2 : tie.Need-slice-aggregate-same-2
 slice-aggregate-same-2 c = search needs
 
--- src/words.rt:89:9
 same-requires : tie.Need-same-requires
 same-requires c κs = search needs
 
--- src/words.rt:90:9
 returns-3 : tie.Need-returns-3
 unfolding bytes
 returns-3 c = sym (two (c .before .before .before .before) ∙ rw (sym ((c .before) .same .ensures) ∙ not-true _ (c .if3 .taken)))
 
--- src/words.rt:92:11
 number-requires : tie.Need-number-requires
 number-requires c κs = search needs
 
--- src/words.rt:93:23
 enum-known-n : tie.Need-enum-known-n
 enum-known-n c = search needs
 
--- src/words.rt:94:30
 enum-told : tie.Need-enum-told
 enum-told c = search needs
 
--- src/words.rt:78:1
 returns-4 : tie.Need-returns-4
 unfolding bytes
 returns-4 c = let (is, value) = number-is (from ((c .before .before .before .before .before .before .before .before .before .before .before .before) .cut .result + 1) ((c .before .before .before .before .before .before .before .before .before .before .before .before .before .before) .args .line .now)) _ (sym ((c .before .before .before) .number .ensures) ∙ (c .before) .n .given .1) in
     sym (two (c .before .before .before .before .before .before .before .before) ∙ rw (sym ((c .before .before .before .before .before) .same .ensures) ∙ not-false _ ((c .before .before .before .before) .if3 .left), is, value))
 
--- src/words.rt:78:1
 returns-5 : tie.Need-returns-5
 returns-5 c = let not = number-not (from ((c .before .before .before .before .before .before .before .before .before .before .before) .cut .result + 1) ((c .before .before .before .before .before .before .before .before .before .before .before .before .before) .args .line .now)) (sym ((c .before .before) .number .ensures) ∙ c .enum-told .given .1) in
     sym (two (c .before .before .before .before .before .before .before) ∙ simp (not, and-false))

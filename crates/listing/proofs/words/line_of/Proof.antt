@@ -9,13 +9,7 @@ use Rattle.listing.specs.Reading.{from, word-first, word-last, word-some
 use borrow.Author.Needs.{needs}
 use Rattle.listing.proofs.words.line_of.Statement.{statement}
 use Rattle.listing.proofs.words.line_of.Tie as tie
-use Rattle.listing.proofs.words.line_of.Reads as reads
-use Rattle.listing.proofs.words.line_of.Lts as lts
-use Rattle.listing.proofs.words.cut.Reads as cut-reads
-use Rattle.listing.proofs.words.four.Reads as four-reads
-use Rattle.listing.proofs.words.three.Reads as three-reads
 
--- PRE
 -- the words of a line, up to the last space that was found
 first-word : (c : tie.Else1) →
     let line = (c .before .before .before) .args .line .now in
@@ -35,99 +29,74 @@ third-word : (c : tie.Else3) →
     words rest ≡ take k rest ∷ words (from (k + 1) rest)
 third-word c = word-first _ ((c .before) .cut3 .result) ((c .before) .cut3 .ensures) (c .if3 .left)
 
--- END
-
--- src/words.rt:155:9
 cut-requires : tie.Need-cut-requires
 cut-requires c κs = search needs
 
--- src/words.rt:157:9
 returns : tie.Need-returns
 unfolding lineOf
 returns c = rw (word-last ((c .before .before .before) .args .line .now) (omega (arith, (c .before) .cut .ensures)))
 
--- src/words.rt:159:23
 add-first : tie.Need-add-first
 add-first c = search needs
 
--- src/words.rt:159:17
 sub-first : tie.Need-sub-first
 sub-first c = search needs
 
--- src/words.rt:159:17
 part-first-start : tie.Need-part-first-start
 part-first-start c = search needs
 
--- src/words.rt:159:17
 part-first-end : tie.Need-part-first-end
 part-first-end c = search needs
 
--- src/words.rt:160:9
 cut-requires-2 : tie.Need-cut-requires-2
 cut-requires-2 c κs = search needs
 
--- src/words.rt:162:9
 returns-2 : tie.Need-returns-2
 unfolding lineOf
 returns-2 c = rw (first-word (c .before .before .before), word-last (from ((c .before .before .before .before) .cut .result + 1) ((c .before .before .before .before .before .before) .args .line .now)) (omega (arith, (c .before) .cut2 .ensures)))
 
--- src/words.rt:164:25
 add-second : tie.Need-add-second
 add-second c = search needs
 
--- src/words.rt:164:18
 sub-second : tie.Need-sub-second
 sub-second c = search needs
 
--- src/words.rt:164:18
 part-second-start : tie.Need-part-second-start
 part-second-start c = search needs
 
--- src/words.rt:164:18
 part-second-end : tie.Need-part-second-end
 part-second-end c = search needs
 
--- src/words.rt:165:9
 cut-requires-3 : tie.Need-cut-requires-3
 cut-requires-3 c κs = search needs
 
--- src/words.rt:167:22
 slice-aggregate-three : tie.Need-slice-aggregate-three
 slice-aggregate-three c = sym (length-take-le _ _ (omega arith))
 
--- src/words.rt:167:34
 slice-aggregate-three-2 : tie.Need-slice-aggregate-three-2
 slice-aggregate-three-2 c = sym (length-take-le _ _ (omega arith))
 
--- src/words.rt:167:9
 three-requires : tie.Need-three-requires
 three-requires c κs = search needs
 
--- src/words.rt:167:9
 returns-3 : tie.Need-returns-3
 returns-3 c = rw (first-word (c .before .before .before .before .before .before .before .before .before), second-word (c .before .before .before .before .before .before), word-last (from ((c .before .before .before .before .before .before .before) .cut2 .result + 1) (from ((c .before .before .before .before .before .before .before .before .before .before) .cut .result + 1) ((c .before .before .before .before .before .before .before .before .before .before .before .before) .args .line .now))) (omega (arith, (c .before .before .before .before) .cut3 .ensures))) (c .three .ensures)
 
--- src/words.rt:169:25
 add-third : tie.Need-add-third
 add-third c = search needs
 
--- src/words.rt:169:17
 sub-third : tie.Need-sub-third
 sub-third c = search needs
 
--- src/words.rt:169:17
 part-third-start : tie.Need-part-third-start
 part-third-start c = search needs
 
--- src/words.rt:169:17
 part-third-end : tie.Need-part-third-end
 part-third-end c = search needs
 
--- src/words.rt:170:8
 cut-requires-4 : tie.Need-cut-requires-4
 cut-requires-4 c κs = search needs
 
--- src/words.rt:171:9
 returns-4 : tie.Need-returns-4
 unfolding lineOf
 returns-4 c = let rest = from ((c .before .before .before .before) .cut3 .result + 1) (from ((c .before .before .before .before .before .before .before) .cut2 .result + 1) (from ((c .before .before .before .before .before .before .before .before .before .before) .cut .result + 1) ((c .before .before .before .before .before .before .before .before .before .before .before .before) .args .line .now))) in
@@ -135,23 +104,18 @@ returns-4 c = let rest = from ((c .before .before .before .before) .cut3 .result
     let (w, ws, e) = word-some (from (k + 1) rest) in
     rw (first-word (c .before .before .before .before .before .before .before .before .before), second-word (c .before .before .before .before .before .before), third-word (c .before .before .before), word-first rest k ((c .before) .cut4 .ensures) (c .if4 .taken), e)
 
--- src/words.rt:173:10
 slice-aggregate-four : tie.Need-slice-aggregate-four
 slice-aggregate-four c = sym (length-take-le _ _ (omega arith))
 
--- src/words.rt:173:22
 slice-aggregate-four-2 : tie.Need-slice-aggregate-four-2
 slice-aggregate-four-2 c = sym (length-take-le _ _ (omega arith))
 
--- src/words.rt:173:35
 slice-aggregate-four-3 : tie.Need-slice-aggregate-four-3
 slice-aggregate-four-3 c = sym (length-take-le _ _ (omega arith))
 
--- src/words.rt:173:5
 four-requires : tie.Need-four-requires
 four-requires c κs = search needs
 
--- src/words.rt:152:1
 returns-5 : tie.Need-returns-5
 returns-5 c = let rest = from ((c .before .before .before .before .before .before .before .before) .cut3 .result + 1) (from ((c .before .before .before .before .before .before .before .before .before .before .before) .cut2 .result + 1) (from ((c .before .before .before .before .before .before .before .before .before .before .before .before .before .before) .cut .result + 1) ((c .before .before .before .before .before .before .before .before .before .before .before .before .before .before .before .before) .args .line .now))) in
     rw (first-word (c .before .before .before .before .before .before .before .before .before .before .before .before .before), second-word (c .before .before .before .before .before .before .before .before .before .before), third-word (c .before .before .before .before .before .before .before), word-last rest (omega (arith, (c .before .before .before .before .before) .cut4 .ensures))) (c .four .ensures)

@@ -15,9 +15,6 @@ use borrow.Author.Needs.{needs}
 use borrow.Author.Needs.{needs}
 use Rattle.listing.proofs.words.number.Statement.{statement}
 use Rattle.listing.proofs.words.number.Tie as tie
-use Rattle.listing.proofs.words.number.Reads as reads
-use Rattle.listing.proofs.words.number.Lts as lts
-use Rattle.listing.proofs.words.wide.Reads as wide-reads
 
 small : (i : ℕ) → i < 10 → 10 ^ i ≤ 1000000000
 small i l = pow-le-pow-right (lit< tt) {i = i} {j = 9} (omega arith)
@@ -28,25 +25,20 @@ Inv-loop word x₀ i₀ x i = (i ≤ length word) × (x < 10 ^ i) × (digits wor
 abbrev μ-loop : tie.MeasureT-loop
 μ-loop word x₀ i₀ x i = length word - i
 
--- src/words.rt:53:9
 returns : tie.Need-returns Inv-loop μ-loop
 unfolding numberOf isNumber
 returns c = rw (lt-leb 1 (length ((c .before .before) .args .word .now)) (omega arith))
 
--- src/words.rt:56:9
 returns-2 : tie.Need-returns-2 Inv-loop μ-loop
 unfolding numberOf isNumber
 returns-2 c = simp (lt-leb (length ((c .before .before .before) .args .word .now)) 10 (c .if2 .taken), and-false)
 
--- src/words.rt:60:5
 loop-holds : tie.Need-loop-holds Inv-loop μ-loop
 loop-holds c = (omega arith, omega arith, refl, refl)
 
--- src/words.rt:61:17
 shared-slice-read-d : tie.Need-shared-slice-read-d Inv-loop μ-loop
 shared-slice-read-d c = omega arith
 
--- src/words.rt:63:13
 returns-3 : tie.Need-returns-3 Inv-loop μ-loop
 unfolding numberOf isNumber
 returns-3 c = let word = (c .before .before .before .before .before .before .before) .args .word .now in
@@ -54,7 +46,6 @@ returns-3 c = let word = (c .before .before .before .before .before .before .bef
     let none : digits word ≡ false = (c .before .before .before) .loop .inv .2 ∙ digits-here word i ((c .before .before) .loop-test .taken) ∙ rw (lt-leb 48 (getD word i 0) (c .if3 .taken)) in
     simp (none, and-false)
 
--- src/words.rt:66:13
 returns-4 : tie.Need-returns-4 Inv-loop μ-loop
 unfolding numberOf isNumber
 returns-4 c = let word = (c .before .before .before .before .before .before .before .before) .args .word .now in
@@ -62,27 +53,21 @@ returns-4 c = let word = (c .before .before .before .before .before .before .bef
     let none : digits word ≡ false = (c .before .before .before .before) .loop .inv .2 ∙ digits-here word i ((c .before .before .before) .loop-test .taken) ∙ simp (lt-leb (getD word i 0) 57 (c .if4 .taken), and-false) in
     simp (none, and-false)
 
--- src/words.rt:68:13
 mul-x : tie.Need-mul-x Inv-loop μ-loop
 mul-x c = omega (arith, small ((c .before .before .before .before) .loop .i) (omega arith))
 
--- src/words.rt:68:22
 wide-requires : tie.Need-wide-requires Inv-loop μ-loop
 wide-requires c κs = search needs
 
--- src/words.rt:68:13
 add-x : tie.Need-add-x Inv-loop μ-loop
 add-x c = omega (arith, small ((c .before .before .before .before .before) .loop .i) (omega arith))
 
--- src/words.rt:69:9
 add-i : tie.Need-add-i Inv-loop μ-loop
 add-i c = omega arith
 
--- src/words.rt:60:5
 loop-less : tie.Need-loop-less Inv-loop μ-loop
 loop-less c = omega arith
 
--- src/words.rt:60:5
 loop-again : tie.Need-loop-again Inv-loop μ-loop
 loop-again c = let word = (c .before .before .before .before .before .before .before .before .before) .args .word .now in
     let i = (c .before .before .before .before .before) .loop .i in
@@ -95,14 +80,12 @@ loop-again c = let word = (c .before .before .before .before .before .before .be
     let value : valueFrom 0 word ≡ valueFrom (10 * x + (d - 48)) (drop (suc i) word) = (c .before .before .before .before .before) .loop .inv .3 ∙ value-here word i inside x in
     rw (add-one i) (omega arith, omega (arith, pow-suc 10 i), digit, value ∙ rw (c .wide .ensures))
 
--- src/words.rt:72:9
 returns-5 : tie.Need-returns-5 Inv-loop μ-loop
 unfolding numberOf isNumber valueFrom
 returns-5 c = let word = (c .before .before .before .before .before .before) .args .word .now in
     let value : valueFrom 0 word ≡ (c .before .before) .loop .x = (c .before .before) .loop .inv .3 ∙ ap (valueFrom _) (drop-of-length-le word {i = (c .before .before) .loop .i} ((c .before) .loop-test .left)) in
     simp (value, lt-leb ((c .before .before) .loop .x) 4294967295 (c .if5 .taken), and-false)
 
--- src/words.rt:49:1
 returns-6 : tie.Need-returns-6 Inv-loop μ-loop
 unfolding numberOf isNumber digits valueFrom
 returns-6 c = let word = (c .before .before .before .before .before .before) .args .word .now in

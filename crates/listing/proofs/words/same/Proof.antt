@@ -10,8 +10,6 @@ use Rattle.routes.specs.Route.{same}
 use Rattle.routes.specs.Lists.{same-refl, same-true}
 use Rattle.listing.proofs.words.same.Statement.{statement}
 use Rattle.listing.proofs.words.same.Tie as tie
-use Rattle.listing.proofs.words.same.Reads as reads
-use Rattle.listing.proofs.words.same.Lts as lts
 
 unlike : (a b : List ℕ) → (a ≡ b → ⊥) → same a b ≡ false
 unlike a b h = go (same a b) refl
@@ -26,39 +24,30 @@ Inv-loop a b i₀ i = (i ≤ length a) × ((k : ℕ) → k < i → getD a k 0 �
 abbrev μ-loop : tie.MeasureT-loop
 μ-loop a b i₀ i = length a - i
 
--- src/words.rt:30:9
 returns : tie.Need-returns Inv-loop μ-loop
 returns c = sym (unlike _ _ (λ e. c .if1 .taken (ap length e)))
 
--- src/words.rt:33:5
 loop-holds : tie.Need-loop-holds Inv-loop μ-loop
 loop-holds c = (omega arith, λ k l. absurd (omega arith))
 
--- src/words.rt:34:12
 shared-slice-read-if2 : tie.Need-shared-slice-read-if2 Inv-loop μ-loop
 shared-slice-read-if2 c = omega arith
 
--- src/words.rt:34:20
 shared-slice-read-if2-2 : tie.Need-shared-slice-read-if2-2 Inv-loop μ-loop
 shared-slice-read-if2-2 c = omega arith
 
--- src/words.rt:35:13
 returns-2 : tie.Need-returns-2 Inv-loop μ-loop
 returns-2 c = sym (unlike _ _ (λ e. c .if2 .taken (ap (λ l. getD l ((c .before .before .before .before) .loop .i) 0) e)))
 
--- src/words.rt:37:9
 add-i : tie.Need-add-i Inv-loop μ-loop
 add-i c = omega arith
 
--- src/words.rt:33:5
 loop-less : tie.Need-loop-less Inv-loop μ-loop
 loop-less c = omega arith
 
--- src/words.rt:33:5
 loop-again : tie.Need-loop-again Inv-loop μ-loop
 loop-again c = (omega arith, below-more _ _ ((c .before .before .before .before) .loop .inv .1) (c .if2 .left))
 
--- src/words.rt:26:1
 returns-3 : tie.Need-returns-3 Inv-loop μ-loop
 returns-3 c = let a = (c .before .before .before) .args .a .now in
     let b = (c .before .before .before) .args .b .now in

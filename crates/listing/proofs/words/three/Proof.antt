@@ -7,59 +7,43 @@ use Rattle.listing.specs.Reading.{number-is, number-not}
 use borrow.Author.Needs.{needs}
 use Rattle.listing.proofs.words.three.Statement.{statement}
 use Rattle.listing.proofs.words.three.Tie as tie
-use Rattle.listing.proofs.words.three.Reads as reads
-use Rattle.listing.proofs.words.three.Lts as lts
-use Rattle.listing.proofs.words.number.Reads as number-reads
-use Rattle.listing.proofs.words.same.Reads as same-reads
 
--- src/words.rt:102:20
 slice-aggregate-same : tie.Need-slice-aggregate-same
 slice-aggregate-same c = search needs
 
--- src/words.rt:102:9
 same-requires : tie.Need-same-requires
 same-requires c κs = search needs
 
--- src/words.rt:103:9
 returns : tie.Need-returns
 unfolding lineOf bytes
 returns c = rw (sym ((c .before) .same .ensures) ∙ not-true _ (c .if1 .taken))
 
--- src/words.rt:105:28
 number-requires : tie.Need-number-requires
 number-requires c κs = search needs
 
--- src/words.rt:105:23
 enum-known-a : tie.Need-enum-known-a
 enum-known-a c = search needs
 
--- src/words.rt:106:9
 enum-told : tie.Need-enum-told
 enum-told c = search needs
 
--- src/words.rt:106:9
 returns-2 : tie.Need-returns-2
 unfolding lineOf
 returns-2 c = simp (number-not ((c .before .before .before .before .before .before .before .before .before) .args .u .now) (sym ((c .before .before) .number .ensures) ∙ c .enum-told .given .1), and-false)
 
--- src/words.rt:108:28
 number-requires-2 : tie.Need-number-requires-2
 number-requires-2 c κs = search needs
 
--- src/words.rt:108:23
 enum-known-b : tie.Need-enum-known-b
 enum-known-b c = search needs
 
--- src/words.rt:109:9
 enum-told-2 : tie.Need-enum-told-2
 enum-told-2 c = search needs
 
--- src/words.rt:109:9
 returns-3 : tie.Need-returns-3
 unfolding lineOf
 returns-3 c = simp (number-not ((c .before .before .before .before .before .before .before .before .before .before .before .before .before) .args .v .now) (sym ((c .before .before) .number2 .ensures) ∙ c .enum-told2 .given .1), and-false)
 
--- src/words.rt:99:1
 returns-4 : tie.Need-returns-4
 unfolding lineOf bytes
 returns-4 c = let delete = sym ((c .before .before .before .before .before .before .before .before .before) .same .ensures) ∙ not-false _ ((c .before .before .before .before .before .before .before .before) .if1 .left) in

@@ -5,22 +5,16 @@ use borrow.Author.Tests.{lt-ltb, le-ltb}
 use borrow.Author.Needs.{needs}
 use Rattle.row.proofs.push.once.Statement.{statement}
 use Rattle.row.proofs.push.once.Tie as tie
-use Rattle.row.proofs.push.once.Reads as reads
-use Rattle.row.proofs.push.once.Lts as lts
 
--- src/push.rt:46:9
 returns : tie.Need-returns
 returns c = rw (lt-ltb _ _ (c .if1 .taken))
 
--- src/push.rt:49:9
 returns-2 : tie.Need-returns-2
 returns-2 c = rw (le-ltb _ _ ((c .before) .if1 .left), c .if2 .taken) (sym (div-one _))
 
--- src/push.rt:51:5
 div-result : tie.Need-div-result
 div-result c = search needs
 
--- src/push.rt:41:1
 returns-3 : tie.Need-returns-3
 returns-3 c = rw (le-ltb _ _ ((c .before) .if1 .left))
 

@@ -2,14 +2,10 @@ use Rattle.routes.specs.Bits.{one-shifted}
 use borrow.Author.Needs.{needs}
 use Rattle.row.proofs.sets.only.Statement.{statement}
 use Rattle.row.proofs.sets.only.Tie as tie
-use Rattle.row.proofs.sets.only.Reads as reads
-use Rattle.row.proofs.sets.only.Lts as lts
 
--- src/sets.rt:28:5
 shl-result : tie.Need-shl-result
 shl-result c = search needs
 
--- src/sets.rt:24:1
 returns : tie.Need-returns
 returns c = one-shifted (c .args .t) (c .pre)
 

@@ -6,10 +6,7 @@ use lib.Bits.{bitOr}
 use lib.Dec.{ltb, leb}
 use Rattle.row.proofs.settle.parents.Statement.{statement}
 use Rattle.row.proofs.settle.parents.Tie as tie
-use Rattle.row.proofs.settle.parents.Reads as reads
-use Rattle.row.proofs.settle.parents.Lts as lts
 
--- src/settle.rt:76:1
 returns : tie.Need-returns
 returns c =
     let a = (c .before .before .before .before) .args in

@@ -4,12 +4,6 @@ use native.Mathlib.Omega.{arith}
 use Rattle.row.specs.Turns.{Turn, turn-starts, turn-bounds, turn-room, turn-tally, turn-offers, turn-goes, turn-ends}
 use Rattle.row.proofs.settle.settle.Statement.{statement}
 use Rattle.row.proofs.settle.settle.Tie as tie
-use Rattle.row.proofs.settle.settle.Reads as reads
-use Rattle.row.proofs.settle.settle.Lts as lts
-use Rattle.row.proofs.sets.only.Reads as only-reads
-use Rattle.row.proofs.settle.nearest.Reads as nearest-reads
-use Rattle.row.proofs.settle.relax.Reads as relax-reads
-use Rattle.row.proofs.settle.tally.Reads as tally-reads
 
 abbrev Inv-loop : tie.InvT-loop
 Inv-loop n s cost out limit time₀ ways₀ pred₀ order₀ k₀ done₀ frontier₀ time ways pred order k done frontier =
@@ -19,79 +13,60 @@ abbrev μ-loop : tie.MeasureT-loop
 μ-loop n s cost out limit time₀ ways₀ pred₀ order₀ k₀ done₀ frontier₀ time ways pred order k done frontier =
     n - k
 
--- src/settle.rt:29:9
 only-requires : tie.Need-only-requires Inv-loop μ-loop
 only-requires c κs = omega (arith, (c .before .before .before .before .before) .pre .0 .source, (c .before .before .before .before .before) .pre .0 .most)
 
--- src/settle.rt:30:5
 loop-holds : tie.Need-loop-holds Inv-loop μ-loop
 loop-holds c = rw (c .only .ensures) (turn-starts _ _ _ _ _ ((c .before .before .before .before .before .before) .pre .0) ((c .before .before .before .before .before .before) .pre .1))
 
--- src/settle.rt:31:13
 nearest-requires : tie.Need-nearest-requires Inv-loop μ-loop
 nearest-requires c κs = (omega arith, λ t h. rw ((c .before .before) .loop .inv .timed) ((c .before .before) .loop .inv .below t h))
 
--- src/settle.rt:32:13
 only-requires-2 : tie.Need-only-requires-2 Inv-loop μ-loop
 only-requires-2 c κs = turn-bounds _ _ _ _ _ ((c .before .before .before .before .before .before .before .before .before .before) .pre .0) _ _ _ _ _ _ _ _ ((c .before .before .before) .loop .inv) (c .nearest .ensures) .0
 
--- src/settle.rt:33:9
 mul-order : tie.Need-mul-order Inv-loop μ-loop
 mul-order c = let i = turn-bounds _ _ _ _ _ ((c .before .before .before .before .before .before .before .before .before .before .before) .pre .0) _ _ _ _ _ _ _ _ ((c .before .before .before .before) .loop .inv) ((c .before) .nearest .ensures) in omega arith
 
--- src/settle.rt:33:9
 slice-write-order : tie.Need-slice-write-order Inv-loop μ-loop
 slice-write-order c = turn-bounds _ _ _ _ _ ((c .before .before .before .before .before .before .before .before .before .before .before) .pre .0) _ _ _ _ _ _ _ _ ((c .before .before .before .before) .loop .inv) ((c .before) .nearest .ensures) .4
 
--- src/settle.rt:34:9
 add-k : tie.Need-add-k Inv-loop μ-loop
 add-k c = let i = turn-bounds _ _ _ _ _ ((c .before .before .before .before .before .before .before .before .before .before .before) .pre .0) _ _ _ _ _ _ _ _ ((c .before .before .before .before) .loop .inv) ((c .before) .nearest .ensures) in omega arith
 
--- src/settle.rt:36:34
 mul-tally : tie.Need-mul-tally Inv-loop μ-loop
 mul-tally c = let i = turn-bounds _ _ _ _ _ ((c .before .before .before .before .before .before .before .before .before .before .before) .pre .0) _ _ _ _ _ _ _ _ ((c .before .before .before .before) .loop .inv) ((c .before) .nearest .ensures) in omega arith
 
--- src/settle.rt:36:34
 slice-read-tally : tie.Need-slice-read-tally Inv-loop μ-loop
 slice-read-tally c = turn-bounds _ _ _ _ _ ((c .before .before .before .before .before .before .before .before .before .before .before .before) .pre .0) _ _ _ _ _ _ _ _ ((c .before .before .before .before .before) .loop .inv) ((c .before .before) .nearest .ensures) .1
 
--- src/settle.rt:36:43
 mul-tally-2 : tie.Need-mul-tally-2 Inv-loop μ-loop
 mul-tally-2 c = let i = turn-bounds _ _ _ _ _ ((c .before .before .before .before .before .before .before .before .before .before .before .before) .pre .0) _ _ _ _ _ _ _ _ ((c .before .before .before .before .before) .loop .inv) ((c .before .before) .nearest .ensures) in omega arith
 
--- src/settle.rt:36:43
 slice-read-tally-2 : tie.Need-slice-read-tally-2 Inv-loop μ-loop
 slice-read-tally-2 c = turn-bounds _ _ _ _ _ ((c .before .before .before .before .before .before .before .before .before .before .before .before .before) .pre .0) _ _ _ _ _ _ _ _ ((c .before .before .before .before .before .before) .loop .inv) ((c .before .before .before) .nearest .ensures) .2
 
--- src/settle.rt:36:13
 tally-requires : tie.Need-tally-requires Inv-loop μ-loop
 tally-requires c κs = turn-tally _ _ _ _ _ ((c .before .before .before .before .before .before .before .before .before .before .before .before .before .before) .pre .0) _ _ _ _ _ _ _ _ ((c .before .before .before .before .before .before .before) .loop .inv) ((c .before .before .before .before) .nearest .ensures)
 
--- src/settle.rt:37:9
 mul-ways : tie.Need-mul-ways Inv-loop μ-loop
 mul-ways c = let i = turn-bounds _ _ _ _ _ ((c .before .before .before .before .before .before .before .before .before .before .before .before .before .before .before) .pre .0) _ _ _ _ _ _ _ _ ((c .before .before .before .before .before .before .before .before) .loop .inv) ((c .before .before .before .before .before) .nearest .ensures) in omega arith
 
--- src/settle.rt:37:9
 slice-write-ways : tie.Need-slice-write-ways Inv-loop μ-loop
 slice-write-ways c = turn-bounds _ _ _ _ _ ((c .before .before .before .before .before .before .before .before .before .before .before .before .before .before .before) .pre .0) _ _ _ _ _ _ _ _ ((c .before .before .before .before .before .before .before .before) .loop .inv) ((c .before .before .before .before .before) .nearest .ensures) .1
 
--- src/settle.rt:38:21
 mul-fresh : tie.Need-mul-fresh Inv-loop μ-loop
 mul-fresh c = let i = turn-bounds _ _ _ _ _ ((c .before .before .before .before .before .before .before .before .before .before .before .before .before .before .before) .pre .0) _ _ _ _ _ _ _ _ ((c .before .before .before .before .before .before .before .before) .loop .inv) ((c .before .before .before .before .before) .nearest .ensures) in omega arith
 
--- src/settle.rt:38:21
 element-copy-out-fresh : tie.Need-element-copy-out-fresh Inv-loop μ-loop
 element-copy-out-fresh c = turn-bounds _ _ _ _ _ ((c .before .before .before .before .before .before .before .before .before .before .before .before .before .before .before) .pre .0) _ _ _ _ _ _ _ _ ((c .before .before .before .before .before .before .before .before) .loop .inv) ((c .before .before .before .before .before) .nearest .ensures) .0
 
--- src/settle.rt:39:9
 relax-requires : tie.Need-relax-requires Inv-loop μ-loop
 relax-requires c κs = turn-offers _ _ _ _ _ ((c .before .before .before .before .before .before .before .before .before .before .before .before .before .before .before .before .before .before) .pre .0) _ _ _ _ _ _ _ _ ((c .before .before .before .before .before .before .before .before .before .before .before) .loop .inv) ((c .before .before .before .before .before .before .before .before) .nearest .ensures) _ _ _ ((c .before .before .before .before .before .before .before) .only2 .ensures) refl refl
 
--- src/settle.rt:30:5
 loop-less : tie.Need-loop-less Inv-loop μ-loop
 loop-less c = omega (arith, turn-room _ _ _ _ _ ((c .before .before .before .before .before .before .before .before .before .before .before .before .before .before .before .before .before .before .before .before .before .before .before) .pre .0) _ _ _ _ _ _ _ _ ((c .before .before .before .before .before .before .before .before .before .before .before .before .before .before .before .before) .loop .inv) ((c .before .before .before .before .before .before .before .before .before .before .before .before .before) .nearest .ensures))
 
--- src/settle.rt:30:5
 loop-again : tie.Need-loop-again Inv-loop μ-loop
 loop-again c =
     turn-goes _ _ _ _ _ ((c .before .before .before .before .before .before .before .before .before .before .before .before .before .before .before .before .before .before .before .before .before .before .before) .pre .0) _ _ _ _ _ _ _ _ ((c .before .before .before .before .before .before .before .before .before .before .before .before .before .before .before .before) .loop .inv) ((c .before .before .before .before .before .before .before .before .before .before .before .before .before) .nearest .ensures)
@@ -100,23 +75,18 @@ loop-again c =
     ((c .before .before .before .before) .relax .kept .1 .1 .1 .1 .0) ((c .before .before .before .before) .relax .kept .1 .1 .1 .1 .1 .0)
     refl
 
--- src/settle.rt:12:1
 same-length : tie.Need-same-length Inv-loop μ-loop
 same-length c = (c .before) .loop .inv .timed ∙ sym ((c .before .before .before .before .before .before .before .before) .pre .1 .timed)
 
--- src/settle.rt:12:1
 same-length-2 : tie.Need-same-length-2 Inv-loop μ-loop
 same-length-2 c = (c .before) .loop .inv .counted ∙ sym ((c .before .before .before .before .before .before .before .before) .pre .1 .counted)
 
--- src/settle.rt:12:1
 same-length-3 : tie.Need-same-length-3 Inv-loop μ-loop
 same-length-3 c = (c .before) .loop .inv .room ∙ sym ((c .before .before .before .before .before .before .before .before) .pre .1 .room)
 
--- src/settle.rt:12:1
 same-length-4 : tie.Need-same-length-4 Inv-loop μ-loop
 same-length-4 c = (c .before) .loop .inv .queue ∙ sym ((c .before .before .before .before .before .before .before .before) .pre .1 .queue)
 
--- src/settle.rt:12:1
 returns : tie.Need-returns Inv-loop μ-loop
 returns c = turn-ends _ _ _ _ _ ((c .before .before .before .before .before .before .before .before) .pre .0) (rw (c .loop-test .left) at ((c .before) .loop .inv))
 

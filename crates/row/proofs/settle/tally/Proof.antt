@@ -2,11 +2,6 @@ use native.Mathlib.Omega.{arith}
 use Rattle.row.specs.Words.{Tallying, tallying-starts, tallying-goes, tallying-ends}
 use Rattle.row.proofs.settle.tally.Statement.{statement}
 use Rattle.row.proofs.settle.tally.Tie as tie
-use Rattle.row.proofs.settle.tally.Reads as reads
-use Rattle.row.proofs.settle.tally.Lts as lts
-use Rattle.row.proofs.sets.lowest.Reads as lowest-reads
-use Rattle.row.proofs.sets.rest.Reads as rest-reads
-use Rattle.row.proofs.settle.clamp.Reads as clamp-reads
 
 abbrev Inv-loop : tie.InvT-loop
 Inv-loop limit first from ways count₀ left₀ count left = Tallying limit first from ways left count
@@ -14,43 +9,33 @@ Inv-loop limit first from ways count₀ left₀ count left = Tallying limit firs
 abbrev μ-loop : tie.MeasureT-loop
 μ-loop limit first from ways count₀ left₀ count left = left
 
--- src/settle.rt:40:5
 loop-holds : tie.Need-loop-holds Inv-loop μ-loop
 loop-holds c = tallying-starts _ _ _ _ ((c .before) .pre)
 
--- src/settle.rt:41:13
 lowest-requires : tie.Need-lowest-requires Inv-loop μ-loop
 lowest-requires c κs = omega arith
 
--- src/settle.rt:42:38
 mul-clamp : tie.Need-mul-clamp Inv-loop μ-loop
 mul-clamp c = omega (arith, (c .before .before .before .before) .pre .below (c .lowest .result) ((c .before .before) .loop .inv .inside (c .lowest .result) (c .lowest .ensures .member)), (c .before .before .before .before) .good)
 
--- src/settle.rt:42:38
 shared-slice-read-clamp : tie.Need-shared-slice-read-clamp Inv-loop μ-loop
 shared-slice-read-clamp c = (c .before .before .before .before .before) .pre .below _ ((c .before .before .before) .loop .inv .inside _ ((c .before) .lowest .ensures .member))
 
--- src/settle.rt:42:30
 add-clamp : tie.Need-add-clamp Inv-loop μ-loop
 add-clamp c = let l = (c .before .before .before .before .before) .pre .below _ ((c .before .before .before) .loop .inv .inside _ ((c .before) .lowest .ensures .member)) in omega (arith, (c .before .before .before .before .before) .pre .capped _ l, (c .before .before .before .before .before) .pre .few, (c .before .before .before) .loop .inv .capped)
 
--- src/settle.rt:42:9
 clamp-requires : tie.Need-clamp-requires Inv-loop μ-loop
 clamp-requires c κs = let l = (c .before .before .before .before .before) .pre .below _ ((c .before .before .before) .loop .inv .inside _ ((c .before) .lowest .ensures .member)) in omega (arith, (c .before .before .before .before .before) .pre .capped _ l, (c .before .before .before .before .before) .pre .few, (c .before .before .before) .loop .inv .capped)
 
--- src/settle.rt:43:9
 rest-requires : tie.Need-rest-requires Inv-loop μ-loop
 rest-requires c κs = omega arith
 
--- src/settle.rt:40:5
 loop-less : tie.Need-loop-less Inv-loop μ-loop
 loop-less c = omega (arith, c .rest .ensures, (c .before .before .before) .lowest .ensures .less)
 
--- src/settle.rt:40:5
 loop-again : tie.Need-loop-again Inv-loop μ-loop
 loop-again c = rw (c .rest .ensures) (tallying-goes _ _ _ _ ((c .before .before .before .before .before .before .before) .pre) ((c .before .before .before .before .before) .loop .inv) ((c .before .before .before) .lowest .ensures) ((c .before) .clamp .ensures))
 
--- src/settle.rt:34:1
 returns : tie.Need-returns Inv-loop μ-loop
 returns c = tallying-ends _ _ _ _ ((c .before .before .before) .pre) (rw (c .loop-test .left) at ((c .before) .loop .inv))
 
