@@ -44,30 +44,31 @@ lengths n t e =
     let (d, f) = and-eq-true-iff (square (t .share)) (eqb (length (t .score)) n) .0 e₃ in
     record { costs = eqb-true _ _ a; times = eqb-true _ _ b; counts = eqb-true _ _ c; shares = eqb-true _ _ d; scores = eqb-true _ _ f }
 
--- an answer that touches no source and writes no byte says its refusal alone
-untouched : (n : ℕ) (r : Refusal) (p : ℕ → Bool) → ((s : ℕ) → p s ≡ false) →
-    _≡_ {A = Answer} (record { refusal = r; touched = setOf n p; rows = sumTo n (λ s. cond (p s) 1 0); length = 0; buffer = [] }) (says r)
+-- a set of no source is 0, and so is its number
+pub untouched : (n : ℕ) (r : Refusal) (p : ℕ → Bool) → ((s : ℕ) → p s ≡ false) → (k : ℕ) (b : List ℕ) →
+    _≡_ {A = Answer} (record { refusal = r; touched = setOf n p; rows = sumTo n (λ s. cond (p s) 1 0); length = k; buffer = b })
+    (record { refusal = r; touched = 0; rows = 0; length = k; buffer = b })
 unfolding setOf
-untouched n r p h = λ i. record {
+untouched n r p h k b = λ i. record {
   refusal = r;
   touched = sumTo-zero n {f = λ s. cond (p s) (2 ^ s) 0} (λ s l. rw (h s)) i;
   rows = sumTo-zero n {f = λ s. cond (p s) 1 0} (λ s l. rw (h s)) i;
-  length = 0;
-  buffer = [];
+  length = k;
+  buffer = b;
 }
 
--- so does a refused call, and a call that is plain
+-- a refused call says its refusal alone, and so does one that is plain
 reply-refused : (n : ℕ) (r : Refusal) (x : Rule) → accepted r ≡ false → x .buffer ≡ [] → reply n r x ≡ says r
 unfolding reply
-reply-refused n r x e b = rw (e, b) (untouched n r (λ s. false) (λ s. refl))
+reply-refused n r x e b = rw (e, b) (untouched n r (λ s. false) (λ s. refl) 0 [])
 
 reply-plain : (n : ℕ) (r : Refusal) (a : Bool) (tests : Refusal) (left : List ℕ) → reply n r (plain a tests left) ≡ says r
 unfolding reply
 reply-plain n r a tests left = go (accepted r)
   where
     go : (b : Bool) → _≡_ {A = Answer} (record { refusal = r; touched = setOf n (λ s. b && false); rows = sumTo n (λ s. cond (b && false) 1 0); length = length {A = ℕ} (cond b [] []); buffer = cond b [] [] ++ drop (length {A = ℕ} (cond b [] [])) [] }) (says r)
-    go true = untouched n r (λ s. false) (λ s. refl)
-    go false = untouched n r (λ s. false) (λ s. refl)
+    go true = untouched n r (λ s. false) (λ s. refl) 0 []
+    go false = untouched n r (λ s. false) (λ s. refl) 0 []
 
 module _ (c : Call) (t : Tables) where
   -- the first two tests

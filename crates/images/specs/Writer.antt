@@ -1,5 +1,5 @@
 -- The steps of an image's writer, and what the call answers. Assumes nothing.
-use Prim.Native.Nat.{ℕ, zero, suc, _+_, _*_, _/_, _%_, _^_, _<_, _≤_}
+use Prim.Native.Nat.{ℕ, zero, suc, _+_, _*_, _/_, _%_, _<_, _≤_}
 use mathlib.Core.Path.{_≡_, refl, sym, _∙_, ap}
 use mathlib.Core.Bool.{Bool, true, false, cond, _&&_, and-false}
 use mathlib.Core.List.{List, [], _++_}
@@ -10,8 +10,7 @@ use lib.Dec.{leb}
 use lib.ListN.{length, getD, drop}
 use lib.Seq.{sets}
 use borrow.Author.Tests.{le-leb, lt-leb}
-use Rattle.routes.specs.Route.{sumTo, setOf}
-use Rattle.routes.specs.Sums.{sumTo-zero}
+use Rattle.routes.specs.Route.{sumTo}
 use Rattle.book.specs.Hall.{Tables, mostStops, mostWays, scale, upTo, entry, sized, right, imageOf}
 use Rattle.book.specs.Call.{Call, imageWrite, Answer, accepted, need, rule, reply, refusal, after, answer}
 use Rattle.book.specs.declared.Refusal.{Refusal}
@@ -21,7 +20,7 @@ use Rattle.book.specs.WriterLaws.{linkRecord, recordsTo, linksTo, trailer, reco
 use Rattle.book.specs.Filled.{right-true}
 use Rattle.hall.specs.Promise.{Done}
 use Rattle.images.specs.ImagePromise.{linkBit, linkBytes, links, writes, stored, Wrote}
-use Rattle.hall.specs.Calls.{on-tables}
+use Rattle.hall.specs.Calls.{untouched, on-tables}
 
 -- the bytes of a number's low half and of its high half are its four bytes
 pub half-bytes : (x : ℕ) →
@@ -113,16 +112,10 @@ module _ (n : ℕ) (cost : List ℕ) where
 write-reply : (n : ℕ) (r : Refusal) (cost buffer : List ℕ) →
     let bytes : List ℕ = cond (accepted r) (imageOf n cost) [] in
     reply n r (rule n (imageWrite buffer) cost) ≡ writes r (length bytes) (bytes ++ drop (length bytes) buffer)
-unfolding reply rule setOf
+unfolding reply rule
 write-reply n r cost buffer =
     let bytes : List ℕ = cond (accepted r) (imageOf n cost) [] in
-    λ i. record {
-      refusal = r;
-      touched = sumTo-zero n {f = λ s. cond (accepted r && false) (2 ^ s) 0} (λ s l. rw and-false) i;
-      rows = sumTo-zero n {f = λ s. cond (accepted r && false) 1 0} (λ s l. rw and-false) i;
-      length = length bytes;
-      buffer = bytes ++ drop (length bytes) buffer;
-    }
+    untouched n r (λ s. accepted r && false) (λ s. rw and-false) (length bytes) (bytes ++ drop (length bytes) buffer)
 
 module _ (n : ℕ) (t : Tables) (buffer : List ℕ) where
   abbrev call : Call
