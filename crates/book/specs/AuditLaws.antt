@@ -1,12 +1,12 @@
 -- The audit accepts exactly the tables that work out fills. Assumes nothing.
 use Prim.Native.Nat.{ℕ}
 use mathlib.Core.Path.{_≡_, refl, sym, _∙_, ap, subst}
-use mathlib.Core.Logic.{_↔_}
+use mathlib.Core.Logic.{_≢_, _↔_}
 use mathlib.Core.Bool.{Bool, true, false}
 use mathlib.Core.List.{List}
 use borrow.Author.Tests.{eq-eqb}
 use Rattle.book.specs.Hall.{Tables, mostStops, mostWays, scale, upTo, filled, sized, validCosts, uncrowded, right}
-use Rattle.book.specs.Call.{audit, workOut, accepted, need, rule, refusal, after}
+use Rattle.book.specs.Call.{Call, audit, workOut, accepted, need, rule, refusal, after}
 use Rattle.book.specs.declared.Refusal.the-variants.{Accepted, BadTables}
 use Rattle.book.specs.Filled.{sized-filled, sized-cost, right-filled, right-true}
 use Rattle.book.specs.Passed.{need-true, passed}
@@ -37,24 +37,30 @@ module _ (n : ℕ) (t : Tables) (size : upTo mostStops n ≡ true) (lengths : si
       go true e = absurd (h (right-true scale mostWays n t e))
       go false e = refl
 
-  -- these are the tables whose costs work out accepts and which it leaves as they are
-  pub audit-work-out : (refusal (record { n = n; ask = audit }) t ≡ Accepted) ↔
-      ((refusal (record { n = n; ask = workOut (t .cost) }) t ≡ Accepted) × (after (record { n = n; ask = workOut (t .cost) }) t ≡ t))
+-- it accepts exactly the tables whose costs work out accepts and which work out leaves as they are
+module _ (n : ℕ) (t : Tables) where
+  abbrev audits : Call
+  audits = record { n = n; ask = audit }
+
+  abbrev works : Call
+  works = record { n = n; ask = workOut (t .cost) }
+
+  pub audit-work-out : (refusal audits t ≡ Accepted) ↔ ((refusal works t ≡ Accepted) × (after works t ≡ t))
   unfolding after rule
   audit-work-out = (there, back)
     where
-      there : refusal (record { n = n; ask = audit }) t ≡ Accepted →
-          (refusal (record { n = n; ask = workOut (t .cost) }) t ≡ Accepted) × (after (record { n = n; ask = workOut (t .cost) }) t ≡ t)
+      there : refusal audits t ≡ Accepted → (refusal works t ≡ Accepted) × (after works t ≡ t)
       there e =
-          let (valid, few, same) = audit-accepts .0 e in
+          let (size, lengths, tests) = passed audits t e in
+          let (valid, few, same) = audit-accepts n t size lengths .0 e in
           let ok = held-worked n (t .cost) t (record { size = size; square = sized-cost n t lengths; valid = valid; few = few }) lengths in
           (ok, rw ok same)
 
-      back : (refusal (record { n = n; ask = workOut (t .cost) }) t ≡ Accepted) × (after (record { n = n; ask = workOut (t .cost) }) t ≡ t) →
-          refusal (record { n = n; ask = audit }) t ≡ Accepted
+      back : (refusal works t ≡ Accepted) × (after works t ≡ t) → refusal audits t ≡ Accepted
       back (ok, same) =
-          let h = worked-held n (t .cost) (t .cost) size (passed (record { n = n; ask = workOut (t .cost) }) t ok .2) in
-          audit-accepts .1 (h .valid, h .few, rw ok at same)
+          let (size, lengths, tests) = passed works t ok in
+          let h = worked-held n (t .cost) (t .cost) size tests in
+          audit-accepts n t size lengths .1 (h .valid, h .few, rw ok at same)
 
 -- what an accepted work out leaves passes
 pub audit-worked : (n : ℕ) (cost : List ℕ) (t : Tables) → refusal (record { n = n; ask = workOut cost }) t ≡ Accepted →
@@ -64,3 +70,11 @@ audit-worked n cost t e =
     let (size, lengths, tests) = passed (record { n = n; ask = workOut cost }) t e in
     let h = worked-held n cost (t .cost) size tests in
     rw e (audit-accepts n (filled scale n cost) size (sized-filled scale n n cost (h .square) ∙ eq-eqb n n refl) .1 (h .valid, h .few, refl))
+
+-- and beside its cost table no other times, ways, shares or scores of their lengths do
+pub audit-other : (n : ℕ) (cost : List ℕ) (t t′ : Tables) → refusal (record { n = n; ask = workOut cost }) t ≡ Accepted →
+    t′ .cost ≡ cost → sized n t′ ≡ true → t′ ≢ after (record { n = n; ask = workOut cost }) t → refusal (record { n = n; ask = audit }) t′ ≡ BadTables
+unfolding after rule
+audit-other n cost t t′ e costs lengths other =
+    audit-refuses n t′ (passed (record { n = n; ask = workOut cost }) t e .0) lengths
+    (λ r. other (sym (r .2) ∙ ap (filled scale n) costs ∙ rw e))

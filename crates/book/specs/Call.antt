@@ -1,5 +1,7 @@
--- The calls of document 01 on any tables: the refusal, the tables after it, and the answer. Assumes nothing.
+-- The calls of document 01 on any tables: the refusal, the tables after it, the answer, and what a contract promises.
+-- Assumes nothing.
 use Prim.Native.Nat.{ℕ, _+_, _*_}
+use mathlib.Core.Path.{_≡_}
 use mathlib.Core.Bool.{Bool, true, false, cond, not, _&&_, _||_}
 use mathlib.Core.List.{List, [], _++_}
 use lib.Dec.{eqb, ltb, leb}
@@ -117,6 +119,11 @@ after c t = cond (accepted (refusal c t)) (filled scale (c .n) (rule (c .n) (c .
 
 unfoldable pub answer : Call → Tables → Answer
 answer c t = reply (c .n) (refusal c t) (rule (c .n) (c .ask) (t .cost))
+
+-- what the contract of every call promises: lent the tables t, it left the tables t′ and answered a, as document 01 says
+pub record Done (c : Call) (t t′ : Tables) (a : Answer) : Type 0 where
+  pub left : t′ ≡ after c t
+  pub answered : a ≡ answer c t
 
 -- image check, which is lent no table
 unfoldable pub imageCheck : ℕ → List ℕ → Refusal

@@ -1,10 +1,10 @@
--- What the demands say of single calls, over `refusal`, `after` and `answer`: exact shares, one stop, work out's own table,
+-- What the demands say of single calls, over `refusal`, `after` and `answer`: exact shares, one stop,
 -- and images written and read. Assumes nothing.
 use Prim.Native.Nat.{ℕ, zero, suc, _*_, _%_, _<_, _≤_, _∣_}
 use native.Mathlib.Nat.{dvd-of-mod-eq-zero, dvd-mul-right-of-dvd, div-mul-cancel, lt-irrefl}
-use mathlib.Core.Path.{_≡_, refl, sym, _∙_, ap}
+use mathlib.Core.Path.{_≡_, refl, _∙_, ap}
 use mathlib.Core.Logic.{_≢_}
-use mathlib.Core.Bool.{Bool, true, false, _&&_, and-eq-true-iff, or-true}
+use mathlib.Core.Bool.{true, and-eq-true-iff, or-true}
 use mathlib.Core.List.{List, [], _∷_, _++_}
 use lib.Dec.{eqb, leb, lit<}
 use lib.ListN.{length, take, drop}
@@ -13,15 +13,14 @@ use borrow.Author.Tests.{eqb-true, eq-eqb, ne-eqb, leb-true, le-leb}
 use Rattle.routes.specs.Route.{Costs, allTo, ways, through, portion}
 use Rattle.routes.specs.Sums.{all-true}
 use Rattle.book.specs.Hall.{Tables, mostStops, mostWays, scale, upTo, filled, sized, validCosts, uncrowded, right, imageOf, isImage, costsOf}
-use Rattle.book.specs.Call.{Call, workOut, edit, imageWrite, imageRead, accepted, need, waysTest, rule, Answer, reply, refusal, after, answer}
+use Rattle.book.specs.Call.{Call, edit, imageWrite, imageRead, accepted, rule, Answer, reply, refusal, after, answer}
 use Rattle.book.specs.ByteLaws.{Bytes}
 use Rattle.book.specs.ImageLaws.{written-read, written-costs, read-written, read-valid, length-read}
 use Rattle.book.specs.Filled.{sized-filled, sized-cost, right-filled, right-true}
 use Rattle.book.specs.Passed.{need-true, passed, edit-alone}
 use Rattle.book.specs.NoLinks.{valid-none, uncrowded-none}
 use Rattle.book.specs.declared.Kind.{Kind}
-use Rattle.book.specs.declared.Refusal.{Refusal}
-use Rattle.book.specs.declared.Refusal.the-variants.{Accepted, BadSize, BadLength, BadTables, BadStop, BadCost, BadImage, TooManyWays}
+use Rattle.book.specs.declared.Refusal.the-variants.{Accepted, BadSize, BadLength, BadTables, BadStop, BadImage, TooManyWays}
 
 -- every number of ways that a pair may have divides the scale
 pub whole : (k : ℕ) → 0 < k → k ≤ mostWays → k ∣ scale
@@ -43,36 +42,6 @@ unfolding refusal
 one-stop k u v c =
     rw (sized-filled scale 1 1 (0 ∷ []) refl, right-filled scale mostWays 1 (0 ∷ []) (valid-none 1) (uncrowded-none mostWays 1 (lit< tt)), or-true)
     (edit-alone k u v c (filled scale 1 (0 ∷ []) .cost))
-
--- work out looks at the table that it brings, whatever cost table of its length lies beside it
-abbrev pub bringing : Tables → List ℕ → Tables
-bringing t cost = record { cost = cost; time = t .time; ways = t .ways; share = t .share; score = t .score }
-
-lengths-first : (s x b : Bool) (next : Refusal) →
-    need s BadSize (need x BadLength (need b BadLength next)) ≡ need s BadSize (need (b && x) BadLength (need b BadLength next))
-lengths-first false x b next = refl
-lengths-first true false false next = refl
-lengths-first true false true next = refl
-lengths-first true true false next = refl
-lengths-first true true true next = refl
-
-module _ (n : ℕ) (t : Tables) (cost : List ℕ) (square : length (t .cost) ≡ n * n) where
-  pub brought-refusal : refusal (record { n = n; ask = workOut cost }) t ≡ refusal (record { n = n; ask = workOut cost }) (bringing t cost)
-  unfolding refusal sized rule
-  brought-refusal =
-      rw (square, eq-eqb (n * n) (n * n) refl)
-      (lengths-first (upTo mostStops n)
-      (eqb (length (t .time)) (n * n) && (eqb (length (t .ways)) (n * n) && (eqb (length (t .share)) (n * n) && eqb (length (t .score)) n)))
-      (eqb (length cost) (n * n)) (need (validCosts n cost) BadCost (waysTest n cost)))
-
-  pub brought-answer : answer (record { n = n; ask = workOut cost }) t ≡ answer (record { n = n; ask = workOut cost }) (bringing t cost)
-  unfolding answer rule
-  brought-answer = rw brought-refusal
-
-  pub brought-after : refusal (record { n = n; ask = workOut cost }) t ≡ Accepted →
-      after (record { n = n; ask = workOut cost }) t ≡ after (record { n = n; ask = workOut cost }) (bringing t cost)
-  unfolding after rule
-  brought-after ok = rw (ok, sym brought-refusal ∙ ok)
 
 -- an accepted image write has right tables, and answers with their image in front of the buffer
 module _ (n : ℕ) (t : Tables) (buffer : List ℕ) (ok : refusal (record { n = n; ask = imageWrite buffer }) t ≡ Accepted) where

@@ -9,6 +9,7 @@ use lib.Dec.{eqb}
 use Rattle.routes.specs.Route.{mark, sumTo, joinTo, listTo, allTo, same, setOf, count, visits, uses, time, least, extend, hops, routes, leastTime, quickest, ways, through, portion, share, used, score}
 use Rattle.book.specs.Hall.{Tables, scale, filled, sized, validCosts, uncrowded, right, touched, lowFirst, field, imageOf, validRecord, isImage, costsOf}
 use Rattle.book.specs.Call.{Call, Ask, emptyHall, audit, workOut, edit, imageWrite, imageRead, number, accepted, rule, Answer, reply, refusal, after, answer, imageCheck}
+use Rattle.book.specs.Refused.{bufferOf}
 use Rattle.book.specs.declared.Kind.the-variants.{Insert, Cheapen, Delete}
 
 -- the one-way line of three stops, each link of cost 1, and its image
@@ -37,6 +38,10 @@ damaged = lineTables 2 (0 ∷ scale ∷ 0 ∷ [])
 abbrev pub short : Tables
 short = lineTables 1 (0 ∷ scale ∷ [])
 
+-- with a link from 0 to 2 that no quickest route uses
+abbrev pub besides : ℕ → Tables
+besides c = record { cost = 0 ∷ 1 ∷ c ∷ drop 3 lineCosts; time = line .time; ways = line .ways; share = line .share; score = line .score }
+
 -- a call on tables, and its refusal
 pub record Corner : Type 0 where
   pub n : ℕ
@@ -50,13 +55,14 @@ corner n tables ask number = record { n = n; tables = tables; ask = ask; number 
 abbrev pub flat : Tables → List ℕ
 flat t = t .cost ++ (t .time ++ (t .ways ++ (t .share ++ t .score)))
 
--- the call answers so, and if it is refused the tables stay and the answer is empty
+-- the call answers so, and if it is refused the tables and the buffer stay and the answer is empty
 unfoldable pub answersSo : Corner → Bool
 answersSo k =
     let c : Call = record { n = k .n; ask = k .ask } in
     let a : Answer = answer c (k .tables) in
     let empty : Bool = eqb (a .touched) 0 && (eqb (a .rows) 0 && eqb (a .length) 0) in
-    eqb (number (a .refusal)) (k .number) && (accepted (a .refusal) || (empty && same (flat (after c (k .tables))) (flat (k .tables))))
+    let stays : Bool = same (flat (after c (k .tables))) (flat (k .tables)) && same (a .buffer) (bufferOf (k .ask)) in
+    eqb (number (a .refusal)) (k .number) && (accepted (a .refusal) || (empty && stays))
 
 abbrev pub corners : List Corner
 corners =
@@ -67,18 +73,20 @@ corners =
     corner 3 line (workOut (0 ∷ 65535 ∷ drop 2 lineCosts)) 0 ∷ corner 3 line (workOut (1 ∷ drop 1 lineCosts)) 5 ∷ corner 0 line (workOut []) 1 ∷
     -- audit
     corner 3 line audit 0 ∷ corner 3 damaged audit 3 ∷ corner 3 short audit 2 ∷ corner 4 line audit 2 ∷ corner 3 (lineTables 1 (0 ∷ 0 ∷ 0 ∷ [])) audit 3 ∷
+    -- a cost that no quickest route uses may differ, one that ties or improves may not
+    corner 3 (besides 5) audit 0 ∷ corner 3 (besides 6) audit 0 ∷ corner 3 (besides 2) audit 3 ∷ corner 3 (besides 1) audit 3 ∷
     -- edits: 3 before 4, 4 before 5, 5 before 6 and 7, 7 before 8; a delete's cost is not read
     corner 3 damaged (edit Insert 3 3 0) 3 ∷ corner 3 line (edit Insert 3 1 0) 4 ∷ corner 3 line (edit Insert 0 1 0) 5 ∷ corner 3 line (edit Insert 0 1 5) 6 ∷
     corner 3 line (edit Insert 0 2 5) 0 ∷ corner 3 line (edit Cheapen 0 2 4) 7 ∷ corner 3 line (edit Cheapen 0 1 1) 8 ∷ corner 3 line (edit Cheapen 0 1 0) 5 ∷
     corner 3 line (edit Delete 0 2 4) 7 ∷ corner 3 line (edit Delete 1 1 4) 4 ∷ corner 3 line (edit Delete 0 1 65536) 0 ∷ corner 3 short (edit Delete 0 1 1) 2 ∷
     -- image write: a buffer that fits, one byte short, and tables that do not belong to their hall
-    corner 3 line (imageWrite (replicate 16 7)) 0 ∷ corner 3 line (imageWrite (replicate 15 7)) 10 ∷ corner 3 damaged (imageWrite []) 3 ∷
+    corner 3 line (imageWrite (replicate 16 7)) 0 ∷ corner 3 line (imageWrite (replicate 15 7)) 10 ∷ corner 3 damaged (imageWrite (replicate 16 7)) 3 ∷
     -- image read: the lent content does not matter; a missing byte, another n, equal records, cost 0
     corner 3 damaged (imageRead lineImage) 0 ∷ corner 3 short (imageRead lineImage) 2 ∷ corner 3 line (imageRead (drop 1 lineImage)) 9 ∷
     corner 3 line (imageRead (0 ∷ 1 ∷ 1 ∷ 0 ∷ 0 ∷ 1 ∷ drop 6 lineImage)) 9 ∷ corner 3 line (imageRead (0 ∷ 1 ∷ 0 ∷ drop 3 lineImage)) 9 ∷
     corner 3 line (imageRead (take 8 lineImage ++ (2 ∷ drop 9 lineImage))) 9 ∷ []
 
-pub corners-hold : map answersSo corners ≡ replicate 36 true
+pub corners-hold : map answersSo corners ≡ replicate 40 true
 unfolding answersSo sumTo joinTo listTo allTo same setOf count visits uses time least extend hops routes leastTime quickest ways through portion share used score filled sized validCosts uncrowded right touched lowFirst field imageOf validRecord isImage costsOf rule reply refusal after answer
 corners-hold = refl
 

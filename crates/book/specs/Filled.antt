@@ -1,6 +1,6 @@
 -- The tables of a hall's costs: their lengths, and that the audit's test passes them and no others. Assumes nothing.
 use Prim.Native.Nat.{ℕ, _*_}
-use mathlib.Core.Path.{_≡_, refl, sym}
+use mathlib.Core.Path.{_≡_, refl, sym, _∙_, ap}
 use mathlib.Core.Bool.{Bool, true, false, _&&_, and-false, and-eq-true-iff}
 use mathlib.Core.List.{List}
 use lib.Dec.{eqb}
@@ -12,15 +12,25 @@ use Rattle.routes.specs.Rows.{length-listTo}
 use Rattle.book.specs.Hall.{Tables, filled, sized, validCosts, uncrowded, right}
 use Rattle.book.specs.TableLaws.{length-table}
 
--- tables of N stops have the lengths for n stops exactly where n is N
-pub sized-filled : (L n N : ℕ) (cost : List ℕ) → length cost ≡ N * N → sized n (filled L N cost) ≡ eqb n N
+-- tables of N stops beside any cost table have the lengths for n stops exactly where n is N and the cost table has its length
+pub sized-beside : (L n N : ℕ) (links cost : List ℕ) →
+    let f : Tables = filled L N links in
+    sized n (record { cost = cost; time = f .time; ways = f .ways; share = f .share; score = f .score }) ≡ (eqb (length cost) (n * n) && eqb n N)
 unfolding sized filled
-sized-filled L n N cost e = rw (e, length-table N, length-table N, length-table N, length-listTo N) (go (eqb n N) refl)
+sized-beside L n N links cost = rw (length-table N, length-table N, length-table N, length-listTo N) (ap (λ b. eqb (length cost) (n * n) && b) (go (eqb n N) refl))
   where
-    go : (b : Bool) → eqb n N ≡ b →
-        (eqb (N * N) (n * n) && (eqb (N * N) (n * n) && (eqb (N * N) (n * n) && (eqb (N * N) (n * n) && eqb N n)))) ≡ b
+    go : (b : Bool) → eqb n N ≡ b → (eqb (N * N) (n * n) && (eqb (N * N) (n * n) && (eqb (N * N) (n * n) && eqb N n))) ≡ b
     go true h = rw (eqb-true n N h, eq-eqb (N * N) (N * N) refl, eq-eqb N N refl)
     go false h = rw (ne-eqb N n (λ p. eqb-false n N h (sym p))) (simp and-false)
+
+-- so the tables of N stops do exactly where n is N
+pub sized-filled : (L n N : ℕ) (cost : List ℕ) → length cost ≡ N * N → sized n (filled L N cost) ≡ eqb n N
+unfolding filled
+sized-filled L n N cost e = sized-beside L n N cost cost ∙ rw e (go (eqb n N) refl)
+  where
+    go : (b : Bool) → eqb n N ≡ b → (eqb (N * N) (n * n) && b) ≡ b
+    go true h = rw (eqb-true n N h, eq-eqb (N * N) (N * N) refl)
+    go false h = and-false (eqb (N * N) (n * n))
 
 -- and a cost table of its length
 pub sized-cost : (n : ℕ) (t : Tables) → sized n t ≡ true → length (t .cost) ≡ n * n

@@ -2,6 +2,7 @@ pub mod Hall
 pub mod Call
 pub mod Book
 pub mod Cases
+pub mod Crowded
 pub mod Corners
 pub mod TableLaws
 pub mod ByteLaws
@@ -16,3 +17,5 @@ pub mod AuditLaws
 pub mod Edits
 pub mod Sequence
 pub mod CallLaws
+pub mod Refused
+pub mod Bounded

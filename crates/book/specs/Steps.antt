@@ -9,8 +9,8 @@ use lib.ListN.{length, set, replicate, length-set, length-replicate}
 use borrow.Author.Tests.{eqb-true, eq-eqb}
 use Rattle.routes.specs.Booleans.{both}
 use Rattle.book.specs.Hall.{Tables, mostStops, largestCost, mostWays, scale, upTo, entry, filled, sized, validPair, validCosts, uncrowded, right, imageOf, isImage, costsOf}
-use Rattle.book.specs.Call.{Ask, emptyHall, audit, workOut, edit, imageWrite, imageRead, Call, number, accepted, need, costTests, waysTest, edited, Rule, rule, refusal, after, answer}
-use Rattle.book.specs.Book.{Book, bookRefusal, bookAfter, bookAnswer}
+use Rattle.book.specs.Call.{Ask, emptyHall, audit, workOut, edit, imageWrite, imageRead, Call, number, accepted, need, costTests, waysTest, edited, Rule, rule, reply, refusal, after, answer, Done}
+use Rattle.book.specs.Book.{Book, bookRefusal, bookAfter, bookAnswer, Step, lent, kept}
 use Rattle.book.specs.declared.Kind.{Kind}
 use Rattle.book.specs.declared.Kind.the-variants.{Insert, Cheapen, Delete}
 use Rattle.book.specs.declared.Refusal.{Refusal}
@@ -18,7 +18,7 @@ use Rattle.book.specs.declared.Refusal.the-variants.{Accepted, BadSize, 
 use Rattle.book.specs.TableLaws.{entry-set, valid-set}
 use Rattle.book.specs.ImageLaws.{length-read, read-valid}
 use Rattle.book.specs.NoLinks.{valid-none, uncrowded-none}
-use Rattle.book.specs.Filled.{sized-filled, right-filled}
+use Rattle.book.specs.Filled.{sized-beside, sized-filled, sized-cost, right-filled, right-true}
 use Rattle.book.specs.Passed.{need-true, newCost, Permitted, permitted}
 
 -- what holds of a book's N and links at every point of a sequence
@@ -63,18 +63,32 @@ module _ (n : ℕ) (k : Kind) (u v c : ℕ) (cost : List ℕ) (h : Held n cost) 
     few = p .few;
   }
 
--- a call that passes its tests leaves costs of which it holds again
-rule-held : (n : ℕ) (ask : Ask) (cost : List ℕ) → Held n cost → accepted (rule n ask cost .tests) ≡ true → Held n (rule n ask cost .left)
+-- a call that passes its tests leaves costs of which it holds, if it holds of those that it audits
+pub rule-held : (n : ℕ) (ask : Ask) (cost : List ℕ) → upTo mostStops n ≡ true → (rule n ask cost .audits ≡ true → Held n cost) →
+    accepted (rule n ask cost .tests) ≡ true → Held n (rule n ask cost .left)
 unfolding rule
-rule-held n emptyHall cost h e = held-none n (h .size)
-rule-held n audit cost h e = h
-rule-held n (workOut c) cost h e = worked-held n c cost (h .size) e
-rule-held n (edit k u v c) cost h e = held-edited n k u v c cost h (permitted n k u v c cost e)
-rule-held n (imageWrite buffer) cost h e = h
-rule-held n (imageRead image) cost h e =
+rule-held n emptyHall cost size h e = held-none n size
+rule-held n audit cost size h e = h refl
+rule-held n (workOut c) cost size h e = worked-held n c cost size e
+rule-held n (edit k u v c) cost size h e = held-edited n k u v c cost (h refl) (permitted n k u v c cost e)
+rule-held n (imageWrite buffer) cost size h e = h refl
+rule-held n (imageRead image) cost size h e =
     let (is, e₁) = need-true (isImage n image) BadImage _ refl e in
     let (few, e₂) = need-true (uncrowded mostWays n (costsOf n image)) TooManyWays Accepted refl e₁ in
-    record { size = h .size; square = length-read n image; valid = read-valid n image is; few = few }
+    record { size = size; square = length-read n image; valid = read-valid n image is; few = few }
+
+-- so it holds of the costs that any accepted call leaves, on any tables
+pub accepted-held : (c : Call) (t : Tables) → refusal c t ≡ Accepted → Held (c .n) (rule (c .n) (c .ask) (t .cost) .left)
+unfolding refusal
+accepted-held c t e =
+    let r : Rule = rule (c .n) (c .ask) (t .cost) in
+    let (size, e₁) = need-true (upTo mostStops (c .n)) BadSize _ refl (ap accepted e) in
+    let (lengths, e₂) = need-true (sized (c .n) t) BadLength _ refl e₁ in
+    let (sound, tests) = need-true (not (r .audits) || right scale mostWays (c .n) t) BadTables _ refl e₂ in
+    rule-held (c .n) (c .ask) (t .cost) size (λ audits.
+    let passes : right scale mostWays (c .n) t ≡ true = rw audits at sound in
+    let (valid, few, same) = right-true scale mostWays (c .n) t passes in
+    record { size = size; square = sized-cost (c .n) t lengths; valid = valid; few = few }) tests
 
 -- the tables of a book
 abbrev pub tablesOf : Book → Tables
@@ -134,8 +148,73 @@ module _ (c : Call) (b : Book) where
         go : (x : Bool) → accepted (bookRefusal c b) ≡ x → Held (b .stops) (cond x left (b .links))
         go true e =
             let (same, tests) = accepted-book e in
-            subst (λ n. Held n left) same (rule-held (c .n) (c .ask) (b .links) (rw same h) tests)
+            subst (λ n. Held n left) same (rule-held (c .n) (c .ask) (b .links) (rw same (h .size)) (λ audits. rw same h) tests)
         go false e = h
+
+-- a work out looks at the cost table that it is lent, whose length is a test of its own in the book
+lengths-first : (x b : Bool) (next : Refusal) → need (b && x) BadLength (need b BadLength next) ≡ need x BadLength (need b BadLength next)
+lengths-first x true next = refl
+lengths-first true false next = refl
+lengths-first false false next = refl
+
+module _ (n : ℕ) (b : Book) (h : Held (b .stops) (b .links)) where
+  -- a call that is lent what it brings refuses what the book refuses
+  refusal-brought : (ask : Ask) → refusal (record { n = n; ask = ask }) (lent ask (tablesOf b)) ≡ bookRefusal (record { n = n; ask = ask }) b
+  unfolding refusal bookRefusal rule
+  refusal-brought emptyHall = refusal-book (record { n = n; ask = emptyHall }) b h
+  refusal-brought audit = refusal-book (record { n = n; ask = audit }) b h
+  refusal-brought (workOut cost) =
+      rw (sized-beside scale n (b .stops) (b .links) cost)
+      (ap (need (upTo mostStops n) BadSize) (lengths-first (eqb n (b .stops)) (eqb (length cost) (n * n)) (need (validCosts n cost) BadCost (waysTest n cost))))
+  refusal-brought (edit k u v c) = refusal-book (record { n = n; ask = edit k u v c }) b h
+  refusal-brought (imageWrite buffer) = refusal-book (record { n = n; ask = imageWrite buffer }) b h
+  refusal-brought (imageRead image) = refusal-book (record { n = n; ask = imageRead image }) b h
+
+-- its rule does not look at costs that it does not keep
+rule-lent : (n : ℕ) (ask : Ask) (t : Tables) → rule n ask (lent ask t .cost) ≡ rule n ask (t .cost)
+unfolding rule
+rule-lent n emptyHall t = refl
+rule-lent n audit t = refl
+rule-lent n (workOut cost) t = refl
+rule-lent n (edit k u v c) t = refl
+rule-lent n (imageWrite buffer) t = refl
+rule-lent n (imageRead image) t = refl
+
+-- the tables that it was lent, with the former cost table, are the former tables
+pub former : (ask : Ask) (t : Tables) →
+    _≡_ {A = Tables} (record { cost = t .cost; time = lent ask t .time; ways = lent ask t .ways; share = lent ask t .share; score = lent ask t .score }) t
+former emptyHall t = refl
+former audit t = refl
+former (workOut cost) t = refl
+former (edit k u v c) t = refl
+former (imageWrite buffer) t = refl
+former (imageRead image) t = refl
+
+-- a call that was made on the tables of a book: its answer is the book's, and the five after it are those of the book after it
+module _ (s : Step) (b : Book) (h : Held (b .stops) (b .links))
+    (d : Done (s .call) (lent (s .call .ask) (tablesOf b)) (s .left) (s .answer)) where
+  pub refusal-made : refusal (s .call) (lent (s .call .ask) (tablesOf b)) ≡ bookRefusal (s .call) b
+  refusal-made = refusal-brought (s .call .n) b h (s .call .ask)
+
+  pub answer-made : s .answer ≡ bookAnswer (s .call) b
+  unfolding answer bookAnswer filled
+  answer-made = d .answered ∙ rw (refusal-made, rule-lent (s .call .n) (s .call .ask) (tablesOf b))
+
+  pub kept-made : kept s (tablesOf b) ≡ tablesOf (bookAfter (s .call) b)
+  unfolding after bookAfter bookAnswer reply filled
+  kept-made = rw (answer-made, d .left, refusal-made, rule-lent (s .call .n) (s .call .ask) (tablesOf b)) (go (accepted (bookRefusal (s .call) b)) refl)
+    where
+      left : List ℕ
+      left = rule (s .call .n) (s .call .ask) (b .links) .left
+
+      five : Tables → List ℕ → Tables
+      five t cost = record { cost = cost; time = t .time; ways = t .ways; share = t .share; score = t .score }
+
+      go : (x : Bool) → accepted (bookRefusal (s .call) b) ≡ x →
+          let t′ : Tables = cond x (filled scale (s .call .n) left) (lent (s .call .ask) (tablesOf b)) in
+          five t′ (cond x (t′ .cost) (b .links)) ≡ filled scale (b .stops) (cond x left (b .links))
+      go true e = ap (λ n. filled scale n left) (accepted-book (s .call) b e .0)
+      go false e = former (s .call .ask) (tablesOf b)
 
 -- an answer other than 3
 record Other (r : Refusal) : Type 0 where
