@@ -80,4 +80,4 @@ refused-unchanged c t t′ a d closed =
 pub refused-kept : (s : Step) (t : Tables) → Done (s .call) (lent (s .call .ask) t) (s .left) (s .answer) → accepted (s .answer .refusal) ≡ false → kept s t ≡ t
 refused-kept s t d closed =
     let same = refused-unchanged (s .call) (lent (s .call .ask) t) (s .left) (s .answer) d closed .tables in
-    rw (closed, same) (former (s .call .ask) t)
+    rw (closed, same) (former t (s .call .ask))

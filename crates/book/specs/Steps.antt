@@ -151,58 +151,57 @@ module _ (c : Call) (b : Book) where
             subst (λ n. Held n left) same (rule-held (c .n) (c .ask) (b .links) (rw same (h .size)) (λ audits. rw same h) tests)
         go false e = h
 
--- a work out looks at the cost table that it is lent, whose length is a test of its own in the book
+-- of a work out the lengths of the five are tested with that of its cost table, in the book apart
 lengths-first : (x b : Bool) (next : Refusal) → need (b && x) BadLength (need b BadLength next) ≡ need x BadLength (need b BadLength next)
 lengths-first x true next = refl
 lengths-first true false next = refl
 lengths-first false false next = refl
 
-module _ (n : ℕ) (b : Book) (h : Held (b .stops) (b .links)) where
-  -- a call that is lent what it brings refuses what the book refuses
-  refusal-brought : (ask : Ask) → refusal (record { n = n; ask = ask }) (lent ask (tablesOf b)) ≡ bookRefusal (record { n = n; ask = ask }) b
-  unfolding refusal bookRefusal rule
-  refusal-brought emptyHall = refusal-book (record { n = n; ask = emptyHall }) b h
-  refusal-brought audit = refusal-book (record { n = n; ask = audit }) b h
-  refusal-brought (workOut cost) =
-      rw (sized-beside scale n (b .stops) (b .links) cost)
-      (ap (need (upTo mostStops n) BadSize) (lengths-first (eqb n (b .stops)) (eqb (length cost) (n * n)) (need (validCosts n cost) BadCost (waysTest n cost))))
-  refusal-brought (edit k u v c) = refusal-book (record { n = n; ask = edit k u v c }) b h
-  refusal-brought (imageWrite buffer) = refusal-book (record { n = n; ask = imageWrite buffer }) b h
-  refusal-brought (imageRead image) = refusal-book (record { n = n; ask = imageRead image }) b h
+-- every call but work out is lent the five as they are: what holds so of a call, and of a work out, holds of what any call is lent
+by-lent : (P : Ask → Tables → Type 0) (t : Tables) → ((ask : Ask) → P ask t) → ((cost : List ℕ) → P (workOut cost) (lent (workOut cost) t)) →
+    (ask : Ask) → P ask (lent ask t)
+by-lent P t own brought emptyHall = own emptyHall
+by-lent P t own brought audit = own audit
+by-lent P t own brought (workOut cost) = brought cost
+by-lent P t own brought (edit k u v c) = own (edit k u v c)
+by-lent P t own brought (imageWrite buffer) = own (imageWrite buffer)
+by-lent P t own brought (imageRead image) = own (imageRead image)
 
--- its rule does not look at costs that it does not keep
-rule-lent : (n : ℕ) (ask : Ask) (t : Tables) → rule n ask (lent ask t .cost) ≡ rule n ask (t .cost)
+-- a call on what it is lent refuses what the book refuses
+refusal-lent : (n : ℕ) (b : Book) → Held (b .stops) (b .links) →
+    (ask : Ask) → refusal (record { n = n; ask = ask }) (lent ask (tablesOf b)) ≡ bookRefusal (record { n = n; ask = ask }) b
+unfolding refusal bookRefusal rule
+refusal-lent n b h =
+    by-lent (λ ask t. refusal (record { n = n; ask = ask }) t ≡ bookRefusal (record { n = n; ask = ask }) b) (tablesOf b)
+    (λ ask. refusal-book (record { n = n; ask = ask }) b h)
+    (λ cost. rw (sized-beside scale n (b .stops) (b .links) cost)
+    (ap (need (upTo mostStops n) BadSize) (lengths-first (eqb n (b .stops)) (eqb (length cost) (n * n)) (need (validCosts n cost) BadCost (waysTest n cost)))))
+
+-- its rule is that over the present costs
+rule-lent : (n : ℕ) (t : Tables) (ask : Ask) → rule n ask (lent ask t .cost) ≡ rule n ask (t .cost)
 unfolding rule
-rule-lent n emptyHall t = refl
-rule-lent n audit t = refl
-rule-lent n (workOut cost) t = refl
-rule-lent n (edit k u v c) t = refl
-rule-lent n (imageWrite buffer) t = refl
-rule-lent n (imageRead image) t = refl
+rule-lent n t = by-lent (λ ask t′. rule n ask (t′ .cost) ≡ rule n ask (t .cost)) t (λ ask. refl) (λ cost. refl)
 
--- the tables that it was lent, with the former cost table, are the former tables
-pub former : (ask : Ask) (t : Tables) →
+-- what it was lent, with the former cost table, are the former five
+pub former : (t : Tables) (ask : Ask) →
     _≡_ {A = Tables} (record { cost = t .cost; time = lent ask t .time; ways = lent ask t .ways; share = lent ask t .share; score = lent ask t .score }) t
-former emptyHall t = refl
-former audit t = refl
-former (workOut cost) t = refl
-former (edit k u v c) t = refl
-former (imageWrite buffer) t = refl
-former (imageRead image) t = refl
+former t =
+    by-lent (λ ask t′. _≡_ {A = Tables} (record { cost = t .cost; time = t′ .time; ways = t′ .ways; share = t′ .share; score = t′ .score }) t) t
+    (λ ask. refl) (λ cost. refl)
 
 -- a call that was made on the tables of a book: its answer is the book's, and the five after it are those of the book after it
 module _ (s : Step) (b : Book) (h : Held (b .stops) (b .links))
     (d : Done (s .call) (lent (s .call .ask) (tablesOf b)) (s .left) (s .answer)) where
   pub refusal-made : refusal (s .call) (lent (s .call .ask) (tablesOf b)) ≡ bookRefusal (s .call) b
-  refusal-made = refusal-brought (s .call .n) b h (s .call .ask)
+  refusal-made = refusal-lent (s .call .n) b h (s .call .ask)
 
   pub answer-made : s .answer ≡ bookAnswer (s .call) b
   unfolding answer bookAnswer filled
-  answer-made = d .answered ∙ rw (refusal-made, rule-lent (s .call .n) (s .call .ask) (tablesOf b))
+  answer-made = d .answered ∙ rw (refusal-made, rule-lent (s .call .n) (tablesOf b) (s .call .ask))
 
   pub kept-made : kept s (tablesOf b) ≡ tablesOf (bookAfter (s .call) b)
   unfolding after bookAfter bookAnswer reply filled
-  kept-made = rw (answer-made, d .left, refusal-made, rule-lent (s .call .n) (s .call .ask) (tablesOf b)) (go (accepted (bookRefusal (s .call) b)) refl)
+  kept-made = rw (answer-made, d .left, refusal-made, rule-lent (s .call .n) (tablesOf b) (s .call .ask)) (go (accepted (bookRefusal (s .call) b)) refl)
     where
       left : List ℕ
       left = rule (s .call .n) (s .call .ask) (b .links) .left
@@ -214,7 +213,7 @@ module _ (s : Step) (b : Book) (h : Held (b .stops) (b .links))
           let t′ : Tables = cond x (filled scale (s .call .n) left) (lent (s .call .ask) (tablesOf b)) in
           five t′ (cond x (t′ .cost) (b .links)) ≡ filled scale (b .stops) (cond x left (b .links))
       go true e = ap (λ n. filled scale n left) (accepted-book (s .call) b e .0)
-      go false e = former (s .call .ask) (tablesOf b)
+      go false e = former (tablesOf b) (s .call .ask)
 
 -- an answer other than 3
 record Other (r : Refusal) : Type 0 where
