@@ -19,11 +19,12 @@ use Rattle.book.specs.declared.Refusal.the-variants.{Accepted, BadSize, BadLeng
 use Rattle.book.specs.Filled.{sized-cost, right-true}
 use Rattle.book.specs.Passed.{need-true, newCost, cost-tests}
 use Rattle.book.specs.Steps.{edited-set}
-use Rattle.hall.specs.Promise.{tables, says, Done, Shares, Summed, Attempted}
+use Rattle.hall.specs.Promise.{tables, says, Done, Shares, summed, Attempted}
+use Rattle.hall.specs.Sums.{summed-whole}
 use Rattle.hall.specs.Worked.{worked-shares, worked-scores}
 use Rattle.edits.specs.EditLaws.{square′, valid′}
 use Rattle.hall.specs.Calls.{refused}
-use Rattle.edits.specs.EditPromise.{argumentTests, Change, Revised}
+use Rattle.edits.specs.EditPromise.{argumentTests, Change, Applied}
 
 -- what the tests of n, of the lengths and of two stops tell
 pub size-most : (n : ℕ) → upTo mostStops n ≡ true → n ≤ 64
@@ -68,13 +69,13 @@ cost-chain Delete c present = chain (ltb 0 present) LinkAbsent refl ends
 module _ (n u v new : ℕ) (t : Tables) (h : Change n u v new (t .cost) (t .time) (t .ways) (t .share)) (fits : Bool) (cost′ times′ counts′ shares′ : List ℕ)
     (tried : Attempted n (set (t .cost) (u * n + v) new) (t .time) (t .ways) (t .share) times′ counts′ shares′ fits)
     (costs : cost′ ≡ cond fits (set (t .cost) (u * n + v) new) (t .cost)) where
-  pub shares-revised : fits ≡ true → Shares n shares′
-  shares-revised f =
+  pub shares-applied : fits ≡ true → Shares n shares′
+  shares-applied f =
       worked-shares n (set (t .cost) (u * n + v) new) shares′ (rw f at (tried .shares)) (h .most)
       (square′ n u v new (t .cost) (t .time) (t .ways) (t .share) h) (valid′ n u v new (t .cost) (t .time) (t .ways) (t .share) h) (sym (tried .fitting) ∙ f)
 
-  pub revised-back : fits ≡ false → Revised n u v new t (tables cost′ times′ counts′ shares′ (t .score)) (says TooManyWays)
-  revised-back f = record {
+  pub not-applied : fits ≡ false → Applied n u v new t (tables cost′ times′ counts′ shares′ (t .score)) (says TooManyWays)
+  not-applied f = record {
     left = rw (← tried .fitting, f) λ i. record {
       cost = (rw f at costs) i;
       time = (rw f at (tried .times)) i;
@@ -85,17 +86,17 @@ module _ (n u v new : ℕ) (t : Tables) (h : Change n u v new (t .cost) (t .time
     answered = rw (← tried .fitting, f);
   }
 
-  pub revised : fits ≡ true → (sources : ℕ) → sources ≡ setOf n (touched n (t .cost) (set (t .cost) (u * n + v) new) u v) → (count : ℕ) → count ≡ ones sources →
-      (score′ : List ℕ) → length score′ ≡ n → Summed n n shares′ score′ →
-      Revised n u v new t (tables cost′ times′ counts′ shares′ score′) (record { refusal = Accepted; touched = sources; rows = count; length = 0; buffer = [] })
+  pub applied : fits ≡ true → (sources : ℕ) → sources ≡ setOf n (touched n (t .cost) (set (t .cost) (u * n + v) new) u v) → (count : ℕ) → count ≡ ones sources →
+      length (t .score) ≡ n → (score′ : List ℕ) → score′ ≡ summed n n shares′ (t .score) →
+      Applied n u v new t (tables cost′ times′ counts′ shares′ score′) (record { refusal = Accepted; touched = sources; rows = count; length = 0; buffer = [] })
   unfolding filled
-  revised f sources e count o score′ long sums = record {
+  applied f sources e count o long score′ sums = record {
     left = rw (← tried .fitting, f) λ i. record {
       cost = (rw f at costs) i;
       time = (rw f at (tried .times)) i;
       ways = (rw f at (tried .counts)) i;
       share = (rw f at (tried .shares)) i;
-      score = worked-scores n (set (t .cost) (u * n + v) new) shares′ (rw f at (tried .shares)) score′ long sums i;
+      score = (sums ∙ summed-whole n shares′ (t .score) long ∙ worked-scores n (set (t .cost) (u * n + v) new) shares′ (rw f at (tried .shares))) i;
     };
     answered = rw (← tried .fitting, f) λ i. record { refusal = Accepted; touched = e i; rows = (o ∙ ap ones e ∙ ones-setOf n _) i; length = 0; buffer = [] };
   }
@@ -138,7 +139,7 @@ module _ (n : ℕ) (k : Kind) (u v c : ℕ) (t : Tables) (size : upTo mostStops 
       (refusal-edit ∙ rw (← e, f)) f
 
   -- the inner edit does what the call says
-  pub edit-done : accepted (tests Accepted) ≡ true → {t′ : Tables} {a : Answer} → Revised n u v (newCost k c) t t′ a → Done (record { n = n; ask = edit k u v c }) t t′ a
+  pub edit-done : accepted (tests Accepted) ≡ true → {t′ : Tables} {a : Answer} → Applied n u v (newCost k c) t t′ a → Done (record { n = n; ask = edit k u v c }) t t′ a
   unfolding after answer rule reply left
   edit-done e {t′} {a} r = go (uncrowded mostWays n cost′) refl
     where

@@ -63,7 +63,7 @@ abbrev pub touching : ℕ → (ℕ → Bool) → Answer
 touching n p = record { refusal = Accepted; touched = setOf n p; rows = sumTo n (λ s. cond (p s) 1 0); length = 0; buffer = [] }
 
 -- the tables and the answer of the changed hall where it has no crowded pair, else the tables as they were and 11
-pub record Revised (n u v new : ℕ) (t t′ : Tables) (a : Answer) : Type 0 where
+pub record Applied (n u v new : ℕ) (t t′ : Tables) (a : Answer) : Type 0 where
   pub left : let cost′ : List ℕ = set (t .cost) (u * n + v) new in t′ ≡ cond (uncrowded mostWays n cost′) (filled scale n cost′) t
   pub answered : let cost′ : List ℕ = set (t .cost) (u * n + v) new in
       a ≡ cond (uncrowded mostWays n cost′) (touching n (touched n (t .cost) cost′ u v)) (says TooManyWays)

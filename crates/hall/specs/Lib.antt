@@ -1,6 +1,7 @@
 pub mod Promise
 pub mod Parts
 pub mod Stored
+pub mod Copies
 pub mod Sums
 pub mod Calls
 pub mod Empty

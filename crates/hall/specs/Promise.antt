@@ -3,7 +3,7 @@ use Prim.Native.Nat.{ℕ, _+_, _*_, _^_, _<_, _≤_}
 use mathlib.Core.Path.{_≡_}
 use mathlib.Core.Logic.{_≢_}
 use mathlib.Core.Bool.{Bool, true, cond, not, _&&_, _||_}
-use mathlib.Core.List.{List, []}
+use mathlib.Core.List.{List, [], _++_}
 use lib.Dec.{eqb, ltb, leb}
 use lib.ListN.{length, getD, take, drop, replicate}
 use Rattle.routes.specs.Route.{Costs, mark, sumTo, listTo, allTo, has, leastTime, ways}
@@ -85,19 +85,15 @@ pub record Attempted (n : ℕ) (cost time ways share time′ ways′ share′ : 
   pub counts : ways′ ≡ cond fits (filled scale n cost .ways) ways
   pub shares : share′ ≡ cond fits (filled scale n cost .share) share
 
--- the first k entries were copied
-pub record Copied (k : ℕ) (from to : List ℕ) : Type 0 where
-  pub at : (i : ℕ) → i < k → getD to i 0 ≡ getD from i 0
-
 -- a table of shares whose sums fit
 pub record Shares (n : ℕ) (share : List ℕ) : Type 0 where
   pub most : n ≤ 64
   pub square : length share ≡ n * n
   pub small : (s v : ℕ) → s < n → v < n → entry n share s v < 2 ^ 34
 
--- the first n numbers are the sums of the shares of each stop over the first k sources
-pub record Summed (n k : ℕ) (share sum : List ℕ) : Type 0 where
-  pub at : (v : ℕ) → v < n → getD sum v 0 ≡ sumTo k (λ s. entry n share s v)
+-- the sums of the shares of each stop over the first k sources, in front of the rest of a list
+abbrev pub summed : (n k : ℕ) → (share sum : List ℕ) → List ℕ
+summed n k share sum = listTo n (λ v. sumTo k (λ s. entry n share s v)) ++ drop n sum
 
 -- no link is cheaper than the time between its ends
 abbrev pub noShortcut : (cost time : List ℕ) → Bool

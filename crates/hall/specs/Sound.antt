@@ -7,13 +7,13 @@ use native.Mathlib.Omega.{arith}
 use lib.Dec.{eqb, ltb, leb}
 use lib.ListN.{length, getD}
 use borrow.Author.Tests.{eqb-true, eq-eqb, leb-true, le-leb, ltb-true, ltb-false, lt-ltb, le-ltb, not-true}
-use Rattle.routes.specs.Route.{Costs, sumTo, allTo, same, leastTime, ways, share, score}
+use Rattle.routes.specs.Route.{Costs, sumTo, listTo, allTo, same, leastTime, ways, share, score}
 use Rattle.routes.specs.Equations.{cappedWays}
 use Rattle.routes.specs.Booleans.{bool-iff}
 use Rattle.routes.specs.Bits.{split}
 use Rattle.routes.specs.Lists.{same-refl, same-true}
 use Rattle.routes.specs.Sums.{all-true, all-of, sumTo-cong}
-use Rattle.routes.specs.Rows.{getD-listTo}
+use Rattle.routes.specs.Rows.{getD-listTo, listTo-of}
 use Rattle.row.specs.Promise.{masked, UsefulLinks, isRow}
 use Rattle.book.specs.Hall.{Tables, mostWays, scale, entry, filled, validCosts, uncrowded, right}
 use Rattle.book.specs.TableLaws.{entry-table}
@@ -137,11 +137,14 @@ module _ (n : ℕ) (cost time counts shares scores : List ℕ) (most : n ≤ 64)
       unfolding filled
       passed-right = bool-iff (scoresPass n shares scores) (right scale mostWays n t) (λ z. subst (λ x. right scale mostWays n x ≡ true) (sym (whole-of z)) (right-filled scale mostWays n cost valid passed-clear)) right-scores
         where
+          sums : scoresPass n shares scores ≡ true → scores ≡ listTo n (λ v. sumTo n (λ s. entry n shares s v))
+          sums z = listTo-of n _ 0 scores (long .scores) (λ v l. eqb-true _ _ (all-true n (λ v. eqb (getD scores v 0) (sumTo n (λ s. entry n shares s v))) z v l))
+
           whole-of : scoresPass n shares scores ≡ true → t ≡ filled scale n cost
           whole-of z i = record {
             cost = cost;
             time = passed-worked .times i;
             ways = passed-worked .counts i;
             share = passed-worked .shares i;
-            score = worked-scores n cost shares (passed-worked .shares) scores (long .scores) (record { at = λ v l. eqb-true _ _ (all-true n (λ v. eqb (getD scores v 0) (sumTo n (λ s. entry n shares s v))) z v l) }) i;
+            score = (sums z ∙ worked-scores n cost shares (passed-worked .shares)) i;
           }

@@ -1,11 +1,13 @@
 -- A loop that stores f 0, f 1, .. from the front of a list. Assumes nothing.
-use Prim.Native.Nat.{ℕ, _+_, _<_, _≤_}
+use Prim.Native.Nat.{ℕ, _+_, _-_, _<_, _≤_}
 use mathlib.Core.Path.{_≡_, refl, sym, _∙_, ap}
-use mathlib.Core.List.{List}
-use native.Mathlib.Decide.{ℕ-discrete}
+use mathlib.Core.List.{List, _++_, append-nil}
+use native.Mathlib.Decide.{ℕ-discrete, decLt}
 use native.Mathlib.Omega.{arith}
-use lib.ListN.{length, getD, set, replicate, length-set, length-replicate, getD-replicate}
-use lib.Seq.{ext-getD, getD-set-same, getD-set-other}
+use lib.ListN.{length, getD, set, drop, replicate, length-append, length-drop, length-set, length-replicate, getD-replicate, drop-of-length-le, List·getD-append}
+use lib.Seq.{drop-at, ext-getD, getD-append-add, getD-drop, getD-set-same, getD-set-other}
+use Rattle.routes.specs.Route.{listTo}
+use Rattle.routes.specs.Rows.{length-listTo, getD-listTo}
 
 -- k values are stored, the rest is as it was
 pub record Stored (f : ℕ → ℕ) (k : ℕ) (old now : List ℕ) : Type 0 where
@@ -26,6 +28,33 @@ module _ (f : ℕ → ℕ) where
     ];
     rest = λ i h. getD-set-other now k i x 0 (omega arith) ∙ s .rest i (omega arith);
   }
+
+  -- a list with f 0, f 1, .. in front: its first entries, and the rest
+  pub front-at : (n i : ℕ) (rest : List ℕ) → i < n → getD (listTo n f ++ rest) i 0 ≡ f i
+  front-at n i rest h = List·getD-append (listTo n f) rest 0 i (rw length-listTo h) ∙ getD-listTo n f 0 i h
+
+  pub front-rest : (n : ℕ) (old : List ℕ) {now : List ℕ} → now ≡ listTo n f ++ drop n old → drop n now ≡ drop n old
+  front-rest n old e = ap (drop n) e ∙ drop-at (listTo n f) (drop n old) n (length-listTo n f)
+
+  behind : (n i : ℕ) (l : List ℕ) → n ≤ i → getD (listTo n f ++ drop n l) i 0 ≡ getD l i 0
+  behind n i l h =
+      let split : n + (i - n) ≡ i = omega arith in
+      let place : length (listTo n f) + (i - n) ≡ i = ap (λ k. k + (i - n)) (length-listTo n f) ∙ split in
+      ap (λ j. getD (listTo n f ++ drop n l) j 0) (sym place) ∙ getD-append-add (listTo n f) (drop n l) (i - n) 0 ∙ getD-drop n l (i - n) 0 ∙ ap (λ j. getD l j 0) split
+
+  -- a loop that stored n values leaves them in front of the rest
+  pub stored-front : (n : ℕ) {k : ℕ} {old now : List ℕ} → n ≤ length old → k ≤ n → n ≤ k → Stored f k old now → now ≡ listTo n f ++ drop n old
+  stored-front n {k} {old} {now} h l m s = ext-getD 0 now (listTo n f ++ drop n old) long λ i b. elim (decLt i n) [
+    | yes p ↦ s .done i (omega arith) ∙ sym (front-at n i (drop n old) p)
+    | no p ↦ s .rest i (omega arith) ∙ sym (behind n i old (omega arith))
+  ]
+    where
+      long : length now ≡ length (listTo n f ++ drop n old)
+      long = omega (arith, s .long, length-append (listTo n f) (drop n old), length-listTo n f, length-drop n old)
+
+-- no rest stands behind as many entries as a list has
+pub front-whole : (n : ℕ) (front l : List ℕ) → length l ≡ n → front ++ drop n l ≡ front
+front-whole n front l e = rw (drop-of-length-le l {i = n} (omega arith)) (append-nil front)
 
 -- one value at every place
 pub stored-whole : (x n : ℕ) {k : ℕ} {old now : List ℕ} → length old ≡ n → n ≤ k → Stored (λ i. x) k old now → now ≡ replicate n x

@@ -1,31 +1,50 @@
 -- Sums of shares, source by source. Assumes nothing.
 use Prim.Native.Nat.{ℕ, _+_, _^_, _<_, _≤_}
-use mathlib.Core.Path.{_≡_, sym, _∙_, ap}
-use mathlib.Core.List.{List}
+use mathlib.Core.Path.{_≡_, sym, _∙_, ap, ap₂}
+use mathlib.Core.List.{List, _++_}
 use native.Mathlib.Nat.{mul-le-mul-right}
 use native.Mathlib.Numerals.{add-one}
 use native.Mathlib.Omega.{arith}
-use lib.ListN.{getD}
-use Rattle.routes.specs.Route.{sumTo}
+use lib.ListN.{length, getD, drop}
+use Rattle.routes.specs.Route.{sumTo, listTo}
 use Rattle.routes.specs.Sums.{sumTo-bound}
 use Rattle.book.specs.Hall.{entry}
-use Rattle.hall.specs.Promise.{Shares, Summed}
-use Rattle.hall.specs.Stored.{Stored}
+use Rattle.hall.specs.Promise.{Shares, summed}
+use Rattle.hall.specs.Stored.{front-at, front-rest, front-whole}
+use Rattle.hall.specs.Rows.{listTo-cong}
 
 module _ (n : ℕ) (share : List ℕ) where
-  pub summed-none : (sum : List ℕ) → ((v : ℕ) → v < n → getD sum v 0 ≡ 0) → Summed n 0 share sum
+  abbrev sums : ℕ → ℕ → ℕ
+  sums k v = sumTo k (λ s. entry n share s v)
+
+  -- no source yet: the sums were set to 0
+  pub summed-none : (old : List ℕ) {sum : List ℕ} → sum ≡ listTo n (λ v. 0) ++ drop n old → sum ≡ summed n 0 share sum
   unfolding sumTo
-  summed-none sum h = record { at = h }
+  summed-none old {sum} e = e ∙ ap (λ l. listTo n (λ v. 0) ++ l) (sym (front-rest (λ v. 0) n old e))
+
+  -- the sum of a stop
+  pub summed-at : (k : ℕ) (old : List ℕ) {sum : List ℕ} → sum ≡ summed n k share old → (v : ℕ) → v < n → getD sum v 0 ≡ sumTo k (λ s. entry n share s v)
+  summed-at k old e v h = ap (λ l. getD l v 0) e ∙ front-at (sums k) n v (drop n old) h
 
   -- one more source
-  pub summed-more : (k m : ℕ) (sum sum′ : List ℕ) → n ≤ m → Summed n k share sum → Stored (λ v. getD sum v 0 + entry n share k v) m sum sum′ → Summed n (k + 1) share sum′
+  pub summed-more : (k : ℕ) (old : List ℕ) {sum sum′ : List ℕ} → sum ≡ summed n k share old → sum′ ≡ listTo n (λ v. getD sum v 0 + entry n share k v) ++ drop n sum → sum′ ≡ summed n (k + 1) share old
   unfolding sumTo
-  summed-more k m sum sum′ l s t = record { at = λ v h. t .done v (omega arith) ∙ ap (λ x. x + entry n share k v) (s .at v h) ∙ sym (ap (λ x. sumTo x (λ y. entry n share y v)) (add-one k)) }
+  summed-more k old e d =
+      d ∙ ap₂ _++_
+      (listTo-cong n (λ v h. ap (λ x. x + entry n share k v) (summed-at k old e v h) ∙ sym (ap (λ j. sums j v) (add-one k))))
+      (front-rest (sums k) n old e)
 
-  pub summed-end : {k : ℕ} {sum : List ℕ} → k ≤ n → n ≤ k → Summed n k share sum → Summed n n share sum
-  summed-end {k} {sum} l m s = let same : k ≡ n = omega arith in rw same at s
+  -- all sources
+  pub summed-end : (k : ℕ) (old : List ℕ) {start sum : List ℕ} → k ≤ n → n ≤ k → start ≡ listTo n (λ v. 0) ++ drop n old → sum ≡ summed n k share start → sum ≡ summed n n share old
+  summed-end k old l m e f =
+      let same : k ≡ n = omega arith in
+      f ∙ ap (λ l. listTo n (sums k) ++ l) (front-rest (λ v. 0) n old e) ∙ ap (λ j. summed n j share old) same
+
+  -- the sums alone where the list has no more entries
+  pub summed-whole : (old : List ℕ) → length old ≡ n → summed n n share old ≡ listTo n (λ v. sumTo n (λ s. entry n share s v))
+  summed-whole old e = front-whole n (listTo n (sums n)) old e
 
   -- a sum and one more share fit 64 bits
-  pub summed-fits : (k v : ℕ) (sum : List ℕ) → k < n → v < n → Shares n share → Summed n k share sum → getD sum v 0 + entry n share k v < 2 ^ 64
-  summed-fits k v sum l h sh s =
-      omega (arith, s .at v h, sh .small k v l h, sumTo-bound k (2 ^ 34) {f = λ y. entry n share y v} (λ y m. omega (arith, sh .small y v (omega arith) h)), mul-le-mul-right {m = k} {n = 64} (2 ^ 34) (omega arith))
+  pub summed-fits : (k : ℕ) (old : List ℕ) {sum : List ℕ} → k < n → Shares n share → sum ≡ summed n k share old → (v : ℕ) → v < n → getD sum v 0 + entry n share k v < 2 ^ 64
+  summed-fits k old l sh e v h =
+      omega (arith, summed-at k old e v h, sh .most, sh .small k v l h, sumTo-bound k (2 ^ 34) {f = λ y. entry n share y v} (λ y m. omega (arith, sh .small y v (omega arith) h)), mul-le-mul-right {m = k} {n = 64} (2 ^ 34) (omega (arith, sh .most)))

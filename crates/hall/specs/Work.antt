@@ -9,8 +9,9 @@ use Rattle.routes.specs.Sums.{cond-true, cond-false}
 use Rattle.book.specs.Hall.{Tables, mostStops, upTo, filled, sized, validCosts}
 use Rattle.book.specs.Call.{Call, workOut, need, waysTest, rule, refusal}
 use Rattle.book.specs.declared.Refusal.the-variants.{Accepted, BadCost, TooManyWays}
-use Rattle.hall.specs.Promise.{tables, says, Done, Attempted, Shares, Summed}
+use Rattle.hall.specs.Promise.{tables, says, Done, Attempted, Shares, summed}
 use Rattle.hall.specs.Calls.{stops, lengths, on-tables, refused, passed}
+use Rattle.hall.specs.Sums.{summed-whole}
 use Rattle.hall.specs.Worked.{worked-scores, worked-shares}
 
 module _ (n : ℕ) (cost time ways share score : List ℕ) (some : upTo mostStops n ≡ true) (fits : sized n (tables cost time ways share score) ≡ true) where
@@ -49,13 +50,13 @@ module _ (n : ℕ) (cost time ways share score : List ℕ) (some : upTo mostStop
     pub work-shares : fit ≡ true → Shares n share′
     work-shares e = worked-shares n cost share′ (a .shares ∙ cond-true _ share e) (stops n some .1) (lengths n found fits .costs) valid (sym (a .fitting) ∙ e)
 
-    pub work-accepted : fit ≡ true → {score′ : List ℕ} → length score′ ≡ length score → Summed n n share′ score′ → Done call found (tables cost time′ ways′ share′ score′) (says Accepted)
+    pub work-accepted : fit ≡ true → {score′ : List ℕ} → score′ ≡ summed n n share′ score → Done call found (tables cost time′ ways′ share′ score′) (says Accepted)
     unfolding rule filled
-    work-accepted e {score′} long sums =
+    work-accepted e {score′} sums =
         passed call found (tables cost time′ ways′ share′ score′) false _ cost refl (work-refusal ∙ rw (valid, sym (a .fitting) ∙ e)) λ i. record {
           cost = cost;
           time = (a .times ∙ cond-true _ time e) i;
           ways = (a .counts ∙ cond-true _ ways e) i;
           share = (a .shares ∙ cond-true _ share e) i;
-          score = worked-scores n cost share′ (a .shares ∙ cond-true _ share e) score′ (long ∙ lengths n found fits .scores) sums i;
+          score = (sums ∙ summed-whole n share′ score (lengths n found fits .scores) ∙ worked-scores n cost share′ (a .shares ∙ cond-true _ share e)) i;
         }

@@ -6,16 +6,14 @@ use mathlib.Core.List.{List}
 use native.Mathlib.Omega.{arith}
 use lib.Dec.{ltb}
 use lib.ListN.{length}
-use lib.Seq.{ext-getD}
 use borrow.Author.Tests.{lt-ltb}
-use Rattle.routes.specs.Route.{allTo, has, leastTime, ways, share, score}
+use Rattle.routes.specs.Route.{sumTo, listTo, allTo, has, leastTime, ways, share, score}
 use Rattle.routes.specs.Sums.{sumTo-cong, all-true, all-cong}
-use Rattle.routes.specs.Rows.{listTo-of}
 use Rattle.routes.specs.Bounds.{open-limit}
 use Rattle.row.specs.Promise.{masked, AllLinks}
 use Rattle.book.specs.Hall.{mostWays, scale, entry, filled, validCosts, uncrowded}
 use Rattle.book.specs.TableLaws.{length-table, entry-table}
-use Rattle.hall.specs.Promise.{parts, part, rowOf, free, Square, Shares, Summed, Copied, Redone}
+use Rattle.hall.specs.Promise.{parts, part, rowOf, free, Square, Shares, Redone}
 use Rattle.hall.specs.Parts.{table-of-parts, part-table}
 use Rattle.hall.specs.Rows.{listTo-cong, same-rowOf, same-free, free-ways, free-share, hall-flows, all-rows}
 
@@ -57,9 +55,9 @@ module _ (n : ℕ) (cost shares : List ℕ) (e : shares ≡ filled scale n cost 
   entry-share s v k l = rw e (entry-table n (λ s. share (entry n cost) n s scale) s v k l)
 
   -- the sums of its shares are the scores
-  pub worked-scores : (scores : List ℕ) → length scores ≡ n → Summed n n shares scores → scores ≡ filled scale n cost .score
+  pub worked-scores : listTo n (λ v. sumTo n (λ s. entry n shares s v)) ≡ filled scale n cost .score
   unfolding filled score
-  worked-scores scores long sums = listTo-of n (score (entry n cost) n scale) 0 scores long (λ v l. sums .at v l ∙ sumTo-cong n (λ s k. entry-share s v k l))
+  worked-scores = listTo-cong n (λ v l. sumTo-cong n (λ s k. entry-share s v k l))
 
   -- and they fit 64 bits
   pub worked-shares : n ≤ 64 → length cost ≡ n * n → validCosts n cost ≡ true → uncrowded mostWays n cost ≡ true → Shares n shares
@@ -81,7 +79,3 @@ module _ (n set : ℕ) (cost out times counts shares times′ counts′ shares�
     where
       rows : (s : ℕ) → s < n → parts n times′ counts′ shares′ s ≡ rowOf (entry n cost) n s
       rows s l = (done .rows s ∙ rw (all s, lt-ltb s n l)) ∙ same-rowOf (masked n cost out) (entry n cost) n s (all-rows n cost most square valid out links s l)
-
--- what was copied and copied back is what was there
-pub restored : {k : ℕ} {old copy now : List ℕ} → length old ≡ k → length now ≡ k → Copied k old copy → Copied k copy now → now ≡ old
-restored {k} {old} {copy} {now} p q f g = ext-getD 0 now old (q ∙ sym p) (λ i l. g .at i (omega arith) ∙ f .at i (omega arith))

@@ -7,9 +7,11 @@ ghost use Rattle.book.specs.Hall.{mostStops, largestCost, mostWays, scale, upTo
 pub struct Hall {}
 
 impl Hall {
-    // The most stops, the largest cost of a link, and the most ways of a pair.
+    // The most stops, and with them the most entries of a table.
     pub const STOPS: usize = 64;
 
+    pub const CELLS: usize = Hall::STOPS * Hall::STOPS;
+    // The largest cost of a link, and the most ways of a pair.
     pub const LARGEST_COST: u32 = 65535;
 
     pub const WAYS: u32 = 22;

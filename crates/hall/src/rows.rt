@@ -15,7 +15,7 @@ pub fn everyone(n: usize) -> u64
     requires { ⌜ (0 < n) × (n ≤ 64) ⌝ }
     ensures { λ r. ⌜ ((s : ℕ) → has r s ≡ ltb s n) ⌝ }
 {
-    let spare = 64 - n;
+    let spare = Hall::STOPS - n;
     18446744073709551615u64 >> spare
 }
 

@@ -1,26 +1,29 @@
 // Scores: the sums of shares over all sources.
 use super::places;
 ghost use mathlib.Core.Path.{_≡_};
-ghost use Prim.Native.Nat.{ℕ, _+_, _<_, _≤_};
-ghost use lib.ListN.{length, getD};
-ghost use Rattle.hall.specs.Promise.{Shares, Summed};
+ghost use mathlib.Core.List.{_++_};
+ghost use Prim.Native.Nat.{ℕ, _+_, _^_, _<_, _≤_};
+ghost use lib.ListN.{length, getD, drop};
+ghost use Rattle.routes.specs.Route.{listTo};
+ghost use Rattle.book.specs.Hall.{entry};
+ghost use Rattle.hall.specs.Promise.{Shares, summed};
 
 // Sets the first n sums to 0.
 fn clear(n: usize, sum: &mut [u64])
     requires { ⌜ n ≤ length (now sum) ⌝ }
-    ensures { λ r. ⌜ ((v : ℕ) → v < n → getD (now (sum .exit)) v 0 ≡ 0) ⌝ }
+    ensures { λ r. ⌜ now (sum .exit) ≡ listTo n (λ v. 0) ++ drop n (now (sum .entry)) ⌝ }
 {
     for v in 0..n {
         sum[v] = 0;
     }
 }
 
-// Adds row s of the shares to the sums of the rows before it.
+// Adds row s of the shares to the first n sums.
 fn add(n: usize, s: usize, share: &[u64], sum: &mut [u64])
     requires { ⌜ Shares n (now share) ⌝ }
     requires { ⌜ (s < n) × (n ≤ length (now sum)) ⌝ }
-    requires { ⌜ Summed n s (now share) (now sum) ⌝ }
-    ensures { λ r. ⌜ Summed n (s + 1) (now (share .entry)) (now (sum .exit)) ⌝ }
+    requires { ⌜ ((v : ℕ) → v < n → getD (now sum) v 0 + entry n (now share) s v < 2 ^ 64) ⌝ }
+    ensures { λ r. ⌜ now (sum .exit) ≡ listTo n (λ v. getD (now (sum .entry)) v 0 + entry n (now (share .entry)) s v) ++ drop n (now (sum .entry)) ⌝ }
 {
     let at = places::start(n, s);
     for v in 0..n {
@@ -28,11 +31,11 @@ fn add(n: usize, s: usize, share: &[u64], sum: &mut [u64])
     }
 }
 
-// Sums the shares of each stop.
+// Sums the shares of each stop into the first n sums. The others stay.
 pub fn sum_scores(n: usize, share: &[u64], sum: &mut [u64])
     requires { ⌜ Shares n (now share) ⌝ }
     requires { ⌜ n ≤ length (now sum) ⌝ }
-    ensures { λ r. ⌜ Summed n n (now (share .entry)) (now (sum .exit)) ⌝ }
+    ensures { λ r. ⌜ now (sum .exit) ≡ summed n n (now (share .entry)) (now (sum .entry)) ⌝ }
 {
     clear(n, sum);
     for s in 0..n {

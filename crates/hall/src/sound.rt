@@ -81,7 +81,7 @@ fn scores_pass(n: usize, share: &[u64], score: &[u64]) -> bool
     requires { ⌜ length (now score) ≡ n ⌝ }
     ensures { λ r. ⌜ r ≡ scoresPass n (now (share .entry)) (now (score .entry)) ⌝ }
 {
-    let mut sum = [0u64; 64];
+    let mut sum = [0u64; Hall::STOPS];
     scores::sum_scores(n, share, &mut sum);
     let mut bad = false;
     for v in 0..n {

@@ -28,9 +28,9 @@ pub fn attempt(
     ensures { λ r. ⌜ Attempted n (now (cost .entry)) (now (time .entry)) (now (ways .entry)) (now (share .entry)) (now (time .exit)) (now (ways .exit)) (now (share .exit)) r ⌝ }
 {
     let cells = places::square(n);
-    let mut times = [0u32; 4096];
-    let mut counts = [0u32; 4096];
-    let mut shares = [0u64; 4096];
+    let mut times = [0u32; Hall::CELLS];
+    let mut counts = [0u32; Hall::CELLS];
+    let mut shares = [0u64; Hall::CELLS];
     snapshot::copy32(cells, time, &mut times);
     snapshot::copy32(cells, ways, &mut counts);
     snapshot::copy64(cells, share, &mut shares);

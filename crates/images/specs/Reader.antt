@@ -5,17 +5,18 @@ use mathlib.Core.Bool.{Bool, true, false, cond}
 use mathlib.Core.List.{List}
 use native.Mathlib.Numerals.{add-one}
 use native.Mathlib.Omega.{arith}
-use lib.ListN.{length, take, set, replicate, length-replicate, replicate-append-replicate}
-use lib.Seq.{take-at, ext-getD}
+use lib.ListN.{take, set, replicate, length-replicate, replicate-append-replicate}
+use lib.Seq.{take-at}
 use Rattle.routes.specs.Sums.{cond-true, cond-false}
 use Rattle.book.specs.Hall.{Tables, mostStops, upTo, filled, sized, isImage, costsOf}
 use Rattle.book.specs.Call.{Call, imageRead, need, waysTest, rule, refusal}
 use Rattle.book.specs.declared.Refusal.the-variants.{Accepted, BadImage, TooManyWays}
 use Rattle.book.specs.RecordLaws.{from, to, costAt, costsTo, costs-more}
 use Rattle.book.specs.ImageLaws.{Image, length-read, read-valid}
-use Rattle.hall.specs.Promise.{tables, says, Done, Attempted, Shares, Summed, Copied}
+use Rattle.hall.specs.Promise.{tables, says, Done, Attempted, Shares, summed}
 use Rattle.images.specs.ImagePromise.{Loaded}
 use Rattle.hall.specs.Calls.{stops, lengths, on-tables, refused, passed}
+use Rattle.hall.specs.Sums.{summed-whole}
 use Rattle.hall.specs.Worked.{worked-scores, worked-shares}
 
 -- the front of a table of zeros
@@ -23,10 +24,6 @@ pub take-replicate : (k n x : ℕ) → k ≤ n → take k (replicate n x) ≡ re
 take-replicate k n x h =
     let split : k + (n - k) ≡ n = omega arith in
     rw (← split, ← replicate-append-replicate k (n - k) x) (take-at (replicate k x) (replicate (n - k) x) k (length-replicate k x))
-
--- a list that was copied whole
-pub copied-whole : {k : ℕ} {l m : List ℕ} → length l ≡ k → length m ≡ k → Copied k l m → m ≡ l
-copied-whole {k} {l} {m} e f c = ext-getD 0 m l (f ∙ sym e) (λ i h. c .at i (omega arith))
 
 -- one more record read
 pub read-more : {n c i place x : ℕ} {image cost : List ℕ} → Image n image c → i < c → cost ≡ costsTo n image i →
@@ -75,13 +72,13 @@ module _ (n : ℕ) (image cost time ways share score : List ℕ) (some : upTo mo
     pub read-shares : fit ≡ true → Shares n share′
     read-shares e = worked-shares n (costsOf n image) share′ (a .others .shares ∙ cond-true _ share e) (stops n some .1) (length-read n image) (read-valid n image whole) (sym (a .others .fitting) ∙ e)
 
-    pub read-accepted : fit ≡ true → {score′ : List ℕ} → length score′ ≡ length score → Summed n n share′ score′ → Done call found (tables cost′ time′ ways′ share′ score′) (says Accepted)
+    pub read-accepted : fit ≡ true → {score′ : List ℕ} → score′ ≡ summed n n share′ score → Done call found (tables cost′ time′ ways′ share′ score′) (says Accepted)
     unfolding rule filled
-    read-accepted e {score′} long sums =
+    read-accepted e {score′} sums =
         passed call found (tables cost′ time′ ways′ share′ score′) false _ (costsOf n image) refl (read-refusal ∙ rw (whole, sym (a .others .fitting) ∙ e)) λ i. record {
           cost = (a .costs ∙ cond-true _ cost e) i;
           time = (a .others .times ∙ cond-true _ time e) i;
           ways = (a .others .counts ∙ cond-true _ ways e) i;
           share = (a .others .shares ∙ cond-true _ share e) i;
-          score = worked-scores n (costsOf n image) share′ (a .others .shares ∙ cond-true _ share e) score′ (long ∙ lengths n found fits .scores) sums i;
+          score = (sums ∙ summed-whole n share′ score (lengths n found fits .scores) ∙ worked-scores n (costsOf n image) share′ (a .others .shares ∙ cond-true _ share e)) i;
         }

@@ -45,7 +45,7 @@ fn load(
     ensures { λ r. ⌜ Loaded n (now (image .entry)) (now (cost .entry)) (now (time .entry)) (now (ways .entry)) (now (share .entry)) (now (cost .exit)) (now (time .exit)) (now (ways .exit)) (now (share .exit)) r ⌝ }
 {
     let cells = places::square(n);
-    let mut costs = [0u32; 4096];
+    let mut costs = [0u32; Hall::CELLS];
     read_costs(n, image, &mut costs[..cells]);
     if !work::attempt(n, &costs[..cells], time, ways, share) {
         return false;

@@ -46,11 +46,11 @@ fn hall(n: u64, text: &[u8], first: usize, out: &mut [u8]) -> usize
     requires { ⌜ (length (now text) ≤ 32768) × (first ≤ length (now text) + 1) × (430000 ≤ length (now out)) ⌝ }
     ensures { λ r. ⌜ Printed (hallLine n ++ report 2 (noLinks n) (lines (drop first (now (text .entry))))) 0 (now (out .entry)) r (now (out .exit)) ⌝ }
 {
-    let mut cost = [0u32; 4096];
-    let mut time = [0u32; 4096];
-    let mut ways = [0u32; 4096];
-    let mut share = [0u64; 4096];
-    let mut score = [0u64; 64];
+    let mut cost = [0u32; Hall::CELLS];
+    let mut time = [0u32; Hall::CELLS];
+    let mut ways = [0u32; Hall::CELLS];
+    let mut share = [0u64; Hall::CELLS];
+    let mut score = [0u64; Hall::STOPS];
     let k = n as usize;
     let cells = k * k;
     let at = print::heading(n, out, 0);

@@ -40,7 +40,7 @@ fn edit(
         (tables (now (cost .exit)) (now (time .exit)) (now (ways .exit)) (now (share .exit)) (now (score .exit))) at (now (out .entry)) r (now (out .exit))
         ⌝ }
 {
-    let done = edits::edit_right(kind, n, u, v, c, cost, time, ways, share, score);
+    let done = edits::audited::edit_audited(kind, n, u, v, c, cost, time, ways, share, score);
     let refusal = done.refusal;
     let rows = done.rows;
     print::answer(i, code::code(refusal) as u64, rows as u64, out, at)

@@ -37,29 +37,29 @@ returns c =
     let r = c .refused .ensures in
     rw (r .0, r .1, r .2) (audit-refused (a .n) (a .kind) (a .u) (a .v) (a .c) (tables (a .cost .now) (a .time .now) (a .ways .now) (a .share .now) (a .score .now)) _ (c .before .before .before .audit .ensures) (ne-eqb _ 0 (λ e. c .before .if1 .taken (c .before .before .code .ensures ∙ e))))
 
-edit-right-requires : tie.Need-edit-right-requires
-edit-right-requires c κs =
+edit-audited-requires : tie.Need-edit-audited-requires
+edit-audited-requires c κs =
     let a = c .before .before .before .before .before .before .before .before .before .before .before .before .before .before .before .before .before .before .args in
     let (size, sizes, rightly) = audit-passed (a .n) (a .kind) (a .u) (a .v) (a .c) (tables (a .cost .now) (a .time .now) (a .ways .now) (a .share .now) (a .score .now)) _ (c .before .before .before .before .before .before .before .audit .ensures) (eq-eqb _ 0 (sym (c .before .before .before .before .before .before .code .ensures) ∙ c .before .before .before .before .before .if1 .left)) in
     (size, (sizes, rightly))
 
 same-length-6 : tie.Need-same-length-6
-same-length-6 c = c .before .before .before .before .before .before .before .before .before .before .edit-right .kept .1 .1 .1 .1 .1 .0
+same-length-6 c = c .before .before .before .before .before .before .before .before .before .before .edit-audited .kept .1 .1 .1 .1 .1 .0
 
 same-length-7 : tie.Need-same-length-7
-same-length-7 c = c .before .before .before .before .before .before .before .before .before .before .edit-right .kept .1 .1 .1 .1 .1 .1 .0
+same-length-7 c = c .before .before .before .before .before .before .before .before .before .before .edit-audited .kept .1 .1 .1 .1 .1 .1 .0
 
 same-length-8 : tie.Need-same-length-8
-same-length-8 c = c .before .before .before .before .before .before .before .before .before .before .edit-right .kept .1 .1 .1 .1 .1 .1 .1 .0
+same-length-8 c = c .before .before .before .before .before .before .before .before .before .before .edit-audited .kept .1 .1 .1 .1 .1 .1 .1 .0
 
 same-length-9 : tie.Need-same-length-9
-same-length-9 c = c .before .before .before .before .before .before .before .before .before .before .edit-right .kept .1 .1 .1 .1 .1 .1 .1 .1 .0
+same-length-9 c = c .before .before .before .before .before .before .before .before .before .before .edit-audited .kept .1 .1 .1 .1 .1 .1 .1 .1 .0
 
 same-length-10 : tie.Need-same-length-10
-same-length-10 c = c .before .before .before .before .before .before .before .before .before .before .edit-right .kept .1 .1 .1 .1 .1 .1 .1 .1 .1 .0
+same-length-10 c = c .before .before .before .before .before .before .before .before .before .before .edit-audited .kept .1 .1 .1 .1 .1 .1 .1 .1 .1 .0
 
 returns-2 : tie.Need-returns-2
-returns-2 c = c .before .before .before .before .before .before .before .before .before .before .edit-right .ensures
+returns-2 c = c .before .before .before .before .before .before .before .before .before .before .edit-audited .ensures
 
 pub edit-spec : {M : Type 1} → statement M
 edit-spec =
@@ -74,7 +74,7 @@ edit-spec =
     same-length-4
     same-length-5
     returns
-    edit-right-requires
+    edit-audited-requires
     same-length-6
     same-length-7
     same-length-8

@@ -5,8 +5,7 @@ use mathlib.Core.Path.{ap, ap₂}
 use native.Mathlib.Omega.{arith}
 use lib.ListN.{getD}
 use Rattle.book.specs.Hall.{entry}
-use Rattle.hall.specs.Stored.{Stored, stored-none, stored-more}
-use Rattle.hall.specs.Sums.{summed-more, summed-fits}
+use Rattle.hall.specs.Stored.{Stored, stored-none, stored-more, stored-front}
 use Rattle.hall.proofs.scores.add.Statement.{statement}
 use Rattle.hall.proofs.scores.add.Tie as tie
 
@@ -43,7 +42,7 @@ add-sum-2 c =
     let l = (c .before .before .before) .loop in
     let same = ap (λ k. getD (a .share .now) (k + l .v) 0) ((c .before .before .before .before) .start .ensures .place) in
     let p = (c .before .before .before .before .before .before .before) .pre in
-    omega (arith, same, l .inv .1 .rest (l .v) (omega arith), summed-fits (a .n) (a .share .now) (a .s) (l .v) (a .sum .now) (p .1 .0 .0) (omega arith) (p .0) (p .1 .1))
+    omega (arith, same, l .inv .1 .rest (l .v) (omega arith), p .1 .1 (l .v) (omega arith))
 
 slice-write-sum : tie.Need-slice-write-sum Inv-loop μ-loop
 slice-write-sum c = search needs
@@ -65,7 +64,7 @@ same-length : tie.Need-same-length Inv-loop μ-loop
 same-length c = c .before .loop .inv .1 .long
 
 returns : tie.Need-returns Inv-loop μ-loop
-returns c = summed-more _ _ _ _ _ _ (c .loop-test .left) ((c .before .before .before .before .before) .pre .1 .1) (c .before .loop .inv .1)
+returns c = stored-front _ _ ((c .before .before .before .before .before) .pre .1 .0 .1) (c .before .loop .inv .0) (c .loop-test .left) (c .before .loop .inv .1)
 
 pub add-spec : {M : Type 1} → statement M
 add-spec =

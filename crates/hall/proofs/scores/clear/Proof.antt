@@ -3,7 +3,7 @@ use borrow.Author.Needs.{needs}
 use Prim.Native.Nat.{_≤_, _-_}
 use mathlib.Core.Path.{refl}
 use native.Mathlib.Omega.{arith}
-use Rattle.hall.specs.Stored.{Stored, stored-none, stored-more}
+use Rattle.hall.specs.Stored.{Stored, stored-none, stored-more, stored-front}
 use Rattle.hall.proofs.scores.clear.Statement.{statement}
 use Rattle.hall.proofs.scores.clear.Tie as tie
 
@@ -35,7 +35,7 @@ same-length : tie.Need-same-length Inv-loop μ-loop
 same-length c = c .before .loop .inv .1 .long
 
 returns : tie.Need-returns Inv-loop μ-loop
-returns c = λ v h. c .before .loop .inv .1 .done v (omega arith)
+returns c = stored-front _ _ (c .before .before .pre) (c .before .loop .inv .0) (c .loop-test .left) (c .before .loop .inv .1)
 
 pub clear-spec : {M : Type 1} → statement M
 clear-spec =

@@ -9,6 +9,7 @@ use lib.ListN.{getD}
 use Rattle.routes.specs.Route.{sumTo, allTo}
 use Rattle.book.specs.Hall.{entry}
 use Rattle.hall.specs.Costs.{all-more, all-end}
+use Rattle.hall.specs.Sums.{summed-at}
 use Rattle.hall.proofs.sound.scores_pass.Statement.{statement}
 use Rattle.hall.proofs.sound.scores_pass.Tie as tie
 
@@ -51,7 +52,7 @@ loop-again c =
     let a = (c .before .before .before .before .before .before .before .before) .args in
     let l = (c .before .before) .loop in
     let sum = (c .before .before .before .before) .sum-scores .last .1 .1 .0 in
-    let same = (c .before .before .before .before) .sum-scores .ensures .at (l .v) ((c .before) .loop-test .taken) in
+    let same = summed-at (a .n) (a .share .now) (a .n) _ ((c .before .before .before .before) .sum-scores .ensures) (l .v) ((c .before) .loop-test .taken) in
     (omega arith, all-more _ _ (l .bad) (not (eqb (getD (a .score .now) (l .v) 0) (getD sum (l .v) 0))) (l .inv .1) (Bool·not-not _ ∙ ap (eqb (getD (a .score .now) (l .v) 0)) same))
 
 returns : tie.Need-returns Inv-loop μ-loop

@@ -4,7 +4,8 @@ use mathlib.Core.Path.{sym, _∙_}
 use native.Mathlib.Omega.{arith}
 use borrow.Author.Tests.{ltb-true, not-true, not-false}
 use Rattle.hall.specs.Rows.{job-all}
-use Rattle.hall.specs.Worked.{restored, redone-over, redone-worked}
+use Rattle.hall.specs.Copies.{restored}
+use Rattle.hall.specs.Worked.{redone-over, redone-worked}
 use Rattle.hall.proofs.work.attempt.Statement.{statement}
 use Rattle.hall.proofs.work.attempt.Tie as tie
 
@@ -83,9 +84,9 @@ returns c =
     ((c .before .before .before .before .before .before .before .before .before .before .before .before .before .before .before .before .before .before .before .before .before .before) .redo .ensures) in
     record {
       fitting = sym (not-true _ (sym over ∙ (c .before .before .before .before .before .before .before .before .before .before .before .before .before .before .before) .if1 .taken));
-      times = restored (p .1 .times ∙ q) ((c .before .before .before .before .before .before .before .before .before .before .before .before) .copy323 .kept .1 .1 .0 ∙ (k .0 ∙ p .1 .times) ∙ q) ((c .before .before .before .before .before .before .before .before .before .before .before .before .before .before .before .before .before .before .before .before .before .before .before .before .before .before .before .before .before .before .before .before .before .before .before .before .before .before .before) .copy32 .ensures) ((c .before .before .before .before .before .before .before .before .before .before .before .before) .copy323 .ensures);
-      counts = restored (p .1 .counts ∙ q) ((c .before .before .before .before .before .before .before) .copy324 .kept .1 .1 .0 ∙ (k .1 .0 ∙ p .1 .counts) ∙ q) ((c .before .before .before .before .before .before .before .before .before .before .before .before .before .before .before .before .before .before .before .before .before .before .before .before .before .before .before .before .before .before .before .before .before .before .before) .copy322 .ensures) ((c .before .before .before .before .before .before .before) .copy324 .ensures);
-      shares = restored (p .1 .shares ∙ q) ((c .before .before) .copy642 .kept .1 .1 .0 ∙ (k .1 .1 .0 ∙ p .1 .shares) ∙ q) ((c .before .before .before .before .before .before .before .before .before .before .before .before .before .before .before .before .before .before .before .before .before .before .before .before .before .before .before .before .before .before .before) .copy64 .ensures) ((c .before .before) .copy642 .ensures);
+      times = restored _ _ (p .1 .times ∙ q) _ _ (k .0 ∙ p .1 .times ∙ q) ((c .before .before .before .before .before .before .before .before .before .before .before .before .before .before .before .before .before .before .before .before .before .before .before .before .before .before .before .before .before .before .before .before .before .before .before .before .before .before .before) .copy32 .ensures) ((c .before .before .before .before .before .before .before .before .before .before .before .before) .copy323 .ensures);
+      counts = restored _ _ (p .1 .counts ∙ q) _ _ (k .1 .0 ∙ p .1 .counts ∙ q) ((c .before .before .before .before .before .before .before .before .before .before .before .before .before .before .before .before .before .before .before .before .before .before .before .before .before .before .before .before .before .before .before .before .before .before .before) .copy322 .ensures) ((c .before .before .before .before .before .before .before) .copy324 .ensures);
+      shares = restored _ _ (p .1 .shares ∙ q) _ _ (k .1 .1 .0 ∙ p .1 .shares ∙ q) ((c .before .before .before .before .before .before .before .before .before .before .before .before .before .before .before .before .before .before .before .before .before .before .before .before .before .before .before .before .before .before .before) .copy64 .ensures) ((c .before .before) .copy642 .ensures);
     }
 
 same-length-4 : tie.Need-same-length-4

@@ -111,7 +111,7 @@ returns-5 c =
     let some = held ((c .before .before .before .before .before .before .before .before .before .before .before .before .before .before .before .before .before .before .before .before .before .before .before .before .before) .takes .ensures) ((c .before .before .before .before .before .before .before .before .before .before .before .before .before .before .before .before .before .before .before .before .before .before .before .before) .if1 .left) in
     let fits = held ((c .before .before .before .before .before .before .before .before .before .before .before .before .before .before .before .before .before .before .before) .sized .ensures) ((c .before .before .before .before .before .before .before .before .before .before .before .before .before .before .before .before .before .before) .if2 .left) in
     let valid = held ((c .before .before .before .before .before .before .before .before .before .before .before .before .before .before .before .before .before) .valid .ensures) ((c .before .before .before .before .before .before .before .before .before .before .before .before .before .before .before .before) .if3 .left) in
-    work-accepted _ _ _ _ _ _ some fits valid ((c .before .before .before .before .before .before .before .before .before .before .before .before) .attempt .ensures) (not-false _ ((c .before .before .before .before .before) .if4 .left)) ((c .before .before) .sum-scores .kept .1 .1 .0) ((c .before .before) .sum-scores .ensures)
+    work-accepted _ _ _ _ _ _ some fits valid ((c .before .before .before .before .before .before .before .before .before .before .before .before) .attempt .ensures) (not-false _ ((c .before .before .before .before .before) .if4 .left)) ((c .before .before) .sum-scores .ensures)
 
 pub work-out-spec : {M : Type 1} → statement M
 work-out-spec =

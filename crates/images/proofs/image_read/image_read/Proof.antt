@@ -121,7 +121,7 @@ returns-5 c =
     let some = sym (c .before .before .before .before .before .before .before .before .before .before .before .before .before .before .before .before .before .before .before .before .before .before .before .before .before .before .before .before .before .takes .ensures) ∙ not-false _ (c .before .before .before .before .before .before .before .before .before .before .before .before .before .before .before .before .before .before .before .before .before .before .before .before .before .before .before .before .if1 .left) in
     let fits = sym (c .before .before .before .before .before .before .before .before .before .before .before .before .before .before .before .before .before .before .before .before .before .before .sized .ensures) ∙ not-false _ (c .before .before .before .before .before .before .before .before .before .before .before .before .before .before .before .before .before .before .before .before .before .if2 .left) in
     let whole = sym (c .before .before .before .before .before .before .before .before .before .before .before .before .before .before .before .before .before .before .before .before .is-image .ensures) ∙ not-false _ (c .before .before .before .before .before .before .before .before .before .before .before .before .before .before .before .before .before .before .before .if3 .left) in
-    read-accepted _ _ _ _ _ _ _ some fits whole (c .before .before .before .before .before .before .before .before .before .before .before .before .before .before .load .ensures) (not-false _ (c .before .before .before .before .before .if4 .left)) (c .before .before .sum-scores .kept .1 .1 .0) (c .before .before .sum-scores .ensures)
+    read-accepted _ _ _ _ _ _ _ some fits whole (c .before .before .before .before .before .before .before .before .before .before .before .before .before .before .load .ensures) (not-false _ (c .before .before .before .before .before .if4 .left)) (c .before .before .sum-scores .ensures)
 
 pub image-read-spec : {M : Type 1} → statement M
 image-read-spec =

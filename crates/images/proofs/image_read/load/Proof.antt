@@ -10,7 +10,8 @@ use lib.Seq.{length-take-le, take-at}
 use borrow.Author.Tests.{not-true, not-false}
 use Rattle.book.specs.Hall.{validCosts, costsOf}
 use Rattle.book.specs.ImageLaws.{length-read, read-valid}
-use Rattle.images.specs.Reader.{take-replicate, copied-whole, loaded}
+use Rattle.hall.specs.Copies.{copied-whole}
+use Rattle.images.specs.Reader.{take-replicate, loaded}
 use borrow.Author.Needs.{needs}
 use Rattle.images.proofs.image_read.load.Statement.{statement}
 use Rattle.images.proofs.image_read.load.Tie as tie
@@ -92,9 +93,9 @@ same-length-7 c = search needs
 
 returns-2 : tie.Need-returns-2
 returns-2 c =
-    let long = c .before .before .copy32 .kept .1 .1 .0 ∙ c .before .before .before .before .before .before .before .before .before .before .before .before .before .before .before .before .before .before .before .before .before .before .before .before .before .before .pre .0 .3 ∙ sym (c .before .before .before .before .before .before .before .before .before .before .before .before .before .before .before .before .before .before .before .before .square .ensures .0) in
+    let long = c .before .before .before .before .before .before .before .before .before .before .before .before .before .before .before .before .before .before .before .before .before .before .before .before .before .before .pre .0 .3 ∙ sym (c .before .before .before .before .before .before .before .before .before .before .before .before .before .before .before .before .before .before .before .before .square .ensures .0) in
     loaded true (front (c .before .before .before .before .before .before .before .before .before .before .before .before .before .before .before .before .before .before) _) (c .before .before .before .before .before .before .before .before .before .before .before .before .attempt .ensures) (not-false _ (c .before .before .before .before .before .if1 .left))
-    (copied-whole (length-take-le _ _ (fits (c .before .before .before .before .before .before .before .before .before .before .before .before .before .before .before .before .before .before) _)) long (c .before .before .copy32 .ensures))
+    (copied-whole _ _ (length-take-le _ _ (fits (c .before .before .before .before .before .before .before .before .before .before .before .before .before .before .before .before .before .before) _)) _ long (c .before .before .copy32 .ensures))
 
 pub load-spec : {M : Type 1} → statement M
 load-spec =

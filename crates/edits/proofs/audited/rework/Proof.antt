@@ -1,7 +1,7 @@
--- `rework` works the rows of a set out over the links that it chose. Assumes nothing.
+-- `audited::rework` works the rows of a set out over the links that it chose. Assumes nothing.
 use Rattle.hall.specs.Rows.{job}
-use Rattle.edits.proofs.rework.Statement.{statement}
-use Rattle.edits.proofs.rework.Tie as tie
+use Rattle.edits.proofs.audited.rework.Statement.{statement}
+use Rattle.edits.proofs.audited.rework.Tie as tie
 
 choose-links-requires : tie.Need-choose-links-requires
 choose-links-requires c κs =

@@ -1,4 +1,4 @@
--- `edit_right` does what document 01 says of an edit of right tables. Assumes nothing.
+-- `audited::edit_audited` does what document 01 says of an edit of right tables. Assumes nothing.
 use mathlib.Core.Path.{sym, _∙_, ap}
 use borrow.Author.Tests.{eq-eqb, ne-eqb}
 use borrow.Author.Needs.{needs}
@@ -6,8 +6,8 @@ use Rattle.book.specs.Call.{accepted}
 use Rattle.book.specs.Filled.{sized-cost}
 use Rattle.hall.specs.Promise.{tables}
 use Rattle.edits.specs.EditCalls.{size-most, sized-score, change-of, edit-refused, edit-done}
-use Rattle.edits.proofs.edit_right.Statement.{statement}
-use Rattle.edits.proofs.edit_right.Tie as tie
+use Rattle.edits.proofs.audited.edit_audited.Statement.{statement}
+use Rattle.edits.proofs.audited.edit_audited.Tie as tie
 
 permit-requires : tie.Need-permit-requires
 permit-requires c κs =
@@ -38,35 +38,35 @@ new-cost-requires c κs =
     let p = c .before .before .before .before .before .before .before .before .before .pre in
     change-of (a .n) (a .kind) (a .u) (a .v) (a .c) (tables (a .cost .now) (a .time .now) (a .ways .now) (a .share .now) (a .score .now)) (p .0) (p .1 .0) (p .1 .1) (ap accepted (sym (c .before .before .permit .ensures)) ∙ eq-eqb _ 0 (sym (c .before .code .ensures) ∙ c .if1 .left)) .fits
 
-revise-requires : tie.Need-revise-requires
-revise-requires c κs =
+apply-requires : tie.Need-apply-requires
+apply-requires c κs =
     let a = c .before .before .before .before .before .before .before .before .before .before .before .before .before .before .before .args in
     let p = c .before .before .before .before .before .before .before .before .before .before .before .before .before .before .before .pre in
     rw (c .before .before .before .before .before .new-cost .ensures) (change-of (a .n) (a .kind) (a .u) (a .v) (a .c) (tables (a .cost .now) (a .time .now) (a .ways .now) (a .share .now) (a .score .now)) (p .0) (p .1 .0) (p .1 .1) (ap accepted (sym (c .before .before .before .before .before .before .before .before .permit .ensures)) ∙ eq-eqb _ 0 (sym (c .before .before .before .before .before .before .before .code .ensures) ∙ c .before .before .before .before .before .before .if1 .left)), sized-score (a .n) (tables (a .cost .now) (a .time .now) (a .ways .now) (a .share .now) (a .score .now)) (p .1 .0))
 
 same-length-2 : tie.Need-same-length-2
-same-length-2 c = c .before .before .before .before .before .before .before .before .before .before .revise .kept .1 .1 .1 .1 .0
+same-length-2 c = c .before .before .before .before .before .before .before .before .before .before .apply .kept .1 .1 .1 .1 .0
 
 same-length-3 : tie.Need-same-length-3
-same-length-3 c = c .before .before .before .before .before .before .before .before .before .before .revise .kept .1 .1 .1 .1 .1 .0
+same-length-3 c = c .before .before .before .before .before .before .before .before .before .before .apply .kept .1 .1 .1 .1 .1 .0
 
 same-length-4 : tie.Need-same-length-4
-same-length-4 c = c .before .before .before .before .before .before .before .before .before .before .revise .kept .1 .1 .1 .1 .1 .1 .0
+same-length-4 c = c .before .before .before .before .before .before .before .before .before .before .apply .kept .1 .1 .1 .1 .1 .1 .0
 
 same-length-5 : tie.Need-same-length-5
-same-length-5 c = c .before .before .before .before .before .before .before .before .before .before .revise .kept .1 .1 .1 .1 .1 .1 .1 .0
+same-length-5 c = c .before .before .before .before .before .before .before .before .before .before .apply .kept .1 .1 .1 .1 .1 .1 .1 .0
 
 same-length-6 : tie.Need-same-length-6
-same-length-6 c = c .before .before .before .before .before .before .before .before .before .before .revise .kept .1 .1 .1 .1 .1 .1 .1 .1 .0
+same-length-6 c = c .before .before .before .before .before .before .before .before .before .before .apply .kept .1 .1 .1 .1 .1 .1 .1 .1 .0
 
 returns-2 : tie.Need-returns-2
 returns-2 c =
     let a = c .before .before .before .before .before .before .before .before .before .before .before .before .before .before .before .before .before .before .before .before .before .before .before .before .before .before .args in
     let p = c .before .before .before .before .before .before .before .before .before .before .before .before .before .before .before .before .before .before .before .before .before .before .before .before .before .before .pre in
-    edit-done (a .n) (a .kind) (a .u) (a .v) (a .c) (tables (a .cost .now) (a .time .now) (a .ways .now) (a .share .now) (a .score .now)) (p .0) (p .1 .0) (p .1 .1) (ap accepted (sym (c .before .before .before .before .before .before .before .before .before .before .before .before .before .before .before .before .before .before .before .permit .ensures)) ∙ eq-eqb _ 0 (sym (c .before .before .before .before .before .before .before .before .before .before .before .before .before .before .before .before .before .before .code .ensures) ∙ c .before .before .before .before .before .before .before .before .before .before .before .before .before .before .before .before .before .if1 .left)) (rw (c .before .before .before .before .before .before .before .before .before .before .before .before .before .before .before .before .new-cost .ensures) at (c .before .before .before .before .before .before .before .before .before .before .revise .ensures))
+    edit-done (a .n) (a .kind) (a .u) (a .v) (a .c) (tables (a .cost .now) (a .time .now) (a .ways .now) (a .share .now) (a .score .now)) (p .0) (p .1 .0) (p .1 .1) (ap accepted (sym (c .before .before .before .before .before .before .before .before .before .before .before .before .before .before .before .before .before .before .before .permit .ensures)) ∙ eq-eqb _ 0 (sym (c .before .before .before .before .before .before .before .before .before .before .before .before .before .before .before .before .before .before .code .ensures) ∙ c .before .before .before .before .before .before .before .before .before .before .before .before .before .before .before .before .before .if1 .left)) (rw (c .before .before .before .before .before .before .before .before .before .before .before .before .before .before .before .before .new-cost .ensures) at (c .before .before .before .before .before .before .before .before .before .before .apply .ensures))
 
-pub edit-right-spec : {M : Type 1} → statement M
-edit-right-spec =
+pub edit-audited-spec : {M : Type 1} → statement M
+edit-audited-spec =
     tie.close
     (tie.spec
     permit-requires
@@ -75,7 +75,7 @@ edit-right-spec =
     same-length
     returns
     new-cost-requires
-    revise-requires
+    apply-requires
     same-length-2
     same-length-3
     same-length-4

@@ -1,13 +1,13 @@
--- `revise` leaves and answers what the inner edit promises. Assumes nothing.
-use mathlib.Core.Path.{refl, _∙_}
+-- `audited::apply` leaves the tables and the answer of the changed hall, or all as it was and 11. Assumes nothing.
+use mathlib.Core.Path.{refl}
 use native.Mathlib.Omega.{arith}
 use borrow.Author.Tests.{not-true, not-false}
 use borrow.Author.Needs.{needs}
 use Rattle.hall.specs.Promise.{tables}
 use Rattle.edits.specs.EditLaws.{lengths, touched-set}
-use Rattle.edits.specs.EditCalls.{shares-revised, revised-back, revised}
-use Rattle.edits.proofs.revise.Statement.{statement}
-use Rattle.edits.proofs.revise.Tie as tie
+use Rattle.edits.specs.EditCalls.{shares-applied, not-applied, applied}
+use Rattle.edits.proofs.audited.apply.Statement.{statement}
+use Rattle.edits.proofs.audited.apply.Tie as tie
 
 touched-set-requires : tie.Need-touched-set-requires
 touched-set-requires c κs =
@@ -39,13 +39,13 @@ returns c =
     let r = c .refused .ensures in
     let e = c .before .before .before .before .before .before .before .before .before .before .try-cost .ensures in
     rw (r .0, r .1, r .2)
-    (revised-back (a .n) (a .u) (a .v) (a .new) (tables (a .cost .now) (a .time .now) (a .ways .now) (a .share .now) (a .score .now)) (c .before .before .before .before .before .before .before .before .before .before .before .before .before .before .before .before .before .before .before .before .before .before .before .pre .0) _ _ _ _ _ (e .0) (e .1) (not-true _ (c .before .if1 .taken)))
+    (not-applied (a .n) (a .u) (a .v) (a .new) (tables (a .cost .now) (a .time .now) (a .ways .now) (a .share .now) (a .score .now)) (c .before .before .before .before .before .before .before .before .before .before .before .before .before .before .before .before .before .before .before .before .before .before .before .pre .0) _ _ _ _ _ (e .0) (e .1) (not-true _ (c .before .if1 .taken)))
 
 sum-scores-requires : tie.Need-sum-scores-requires
 sum-scores-requires c κs =
     let a = c .before .before .before .before .before .before .before .before .before .before .before .before .before .before .before .before .before .before .before .before .before .before .before .before .args in
     let e = c .before .before .before .before .before .before .before .before .before .before .before .try-cost .ensures in (
-      shares-revised (a .n) (a .u) (a .v) (a .new) (tables (a .cost .now) (a .time .now) (a .ways .now) (a .share .now) (a .score .now)) (c .before .before .before .before .before .before .before .before .before .before .before .before .before .before .before .before .before .before .before .before .before .before .before .before .pre .0) _ _ _ _ _ (e .0) (e .1) (not-false _ (c .before .before .if1 .left)),
+      shares-applied (a .n) (a .u) (a .v) (a .new) (tables (a .cost .now) (a .time .now) (a .ways .now) (a .share .now) (a .score .now)) (c .before .before .before .before .before .before .before .before .before .before .before .before .before .before .before .before .before .before .before .before .before .before .before .before .pre .0) _ _ _ _ _ (e .0) (e .1) (not-false _ (c .before .before .if1 .left)),
       omega (arith, c .before .before .before .before .before .before .before .before .before .before .before .before .before .before .before .before .before .before .before .before .before .before .before .before .pre .1),
     )
 
@@ -69,11 +69,11 @@ returns-2 c =
     let a = c .before .before .before .before .before .before .before .before .before .before .before .before .before .before .before .before .before .before .before .before .before .before .before .before .before .before .before .args in
     let h = c .before .before .before .before .before .before .before .before .before .before .before .before .before .before .before .before .before .before .before .before .before .before .before .before .before .before .before .pre .0 in
     let e = c .before .before .before .before .before .before .before .before .before .before .before .before .before .before .try-cost .ensures in
-    revised (a .n) (a .u) (a .v) (a .new) (tables (a .cost .now) (a .time .now) (a .ways .now) (a .share .now) (a .score .now)) h _ _ _ _ _ (e .0) (e .1) (not-false _ (c .before .before .before .before .before .if1 .left))
-    _ (touched-set (a .n) (a .u) (a .v) (a .new) (a .cost .now) (a .time .now) (a .ways .now) (a .share .now) h _ (c .before .before .before .before .before .before .before .before .before .before .before .before .before .before .before .before .before .before .before .touched-set .ensures)) _ refl _ (c .before .before .sum-scores .kept .1 .1 .0 ∙ c .before .before .before .before .before .before .before .before .before .before .before .before .before .before .before .before .before .before .before .before .before .before .before .before .before .before .before .pre .1) (c .before .before .sum-scores .ensures)
+    applied (a .n) (a .u) (a .v) (a .new) (tables (a .cost .now) (a .time .now) (a .ways .now) (a .share .now) (a .score .now)) h _ _ _ _ _ (e .0) (e .1) (not-false _ (c .before .before .before .before .before .if1 .left))
+    _ (touched-set (a .n) (a .u) (a .v) (a .new) (a .cost .now) (a .time .now) (a .ways .now) (a .share .now) h _ (c .before .before .before .before .before .before .before .before .before .before .before .before .before .before .before .before .before .before .before .touched-set .ensures)) _ refl (c .before .before .before .before .before .before .before .before .before .before .before .before .before .before .before .before .before .before .before .before .before .before .before .before .before .before .before .pre .1) _ (c .before .before .sum-scores .ensures)
 
-pub revise-spec : {M : Type 1} → statement M
-revise-spec =
+pub apply-spec : {M : Type 1} → statement M
+apply-spec =
     tie.close
     (tie.spec
     touched-set-requires

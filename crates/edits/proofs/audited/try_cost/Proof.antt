@@ -1,4 +1,4 @@
--- `try_cost` leaves the tables of the new costs, or all of the old ones where a pair is crowded. Assumes nothing.
+-- `audited::try_cost` leaves the tables of the new costs, or all of the old ones where a pair is crowded. Assumes nothing.
 use Prim.Native.Nat.{_+_}
 use mathlib.Core.Path.{_∙_}
 use mathlib.Core.Bool.{true≢false}
@@ -8,8 +8,8 @@ use borrow.Author.Tests.{not-true, not-false}
 use borrow.Author.Needs.{needs}
 use Rattle.edits.specs.EditMasks.{put-back}
 use Rattle.edits.specs.EditLaws.{square′, valid′, lengths, comes, below, tried, tried-back}
-use Rattle.edits.proofs.try_cost.Statement.{statement}
-use Rattle.edits.proofs.try_cost.Tie as tie
+use Rattle.edits.proofs.audited.try_cost.Statement.{statement}
+use Rattle.edits.proofs.audited.try_cost.Tie as tie
 
 start-requires : tie.Need-start-requires
 start-requires c κs = (c .before .before .before .before .pre .0 .from, c .before .before .before .before .pre .0 .most)
