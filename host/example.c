@@ -50,7 +50,7 @@ int main(void)
 
     hall_written w = hall_image_write(STOPS, ALL_OF(&hall), image, sizeof image);
     printf("image: refusal %" PRIu32 ", %" PRIu64 " bytes, check %" PRIu32 "\n", w.refusal, w.length,
-           hall_check_image(image, w.length, STOPS));
+           hall_image_check(image, w.length, STOPS));
     memset(&copy, 0, sizeof copy);
     if (hall_image_read(STOPS, image, w.length, ALL_OF(&copy)) != 0)
         return 1;

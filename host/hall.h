@@ -132,7 +132,7 @@ uint32_t hall_image_read(uint64_t n, const uint8_t *image, size_t image_length,
 
 /* Whether the bytes are an image of a hall of n stops: 0, 1 or 9. An image
  * that passes may still be refused by the read with 11. */
-uint32_t hall_check_image(const uint8_t *image, size_t image_length, uint64_t n);
+uint32_t hall_image_check(const uint8_t *image, size_t image_length, uint64_t n);
 
 #ifdef __cplusplus
 }
