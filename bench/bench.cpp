@@ -25,21 +25,23 @@ struct Hall {
     explicit Hall(uint64_t stops)
         : n(stops), cost(n * n), time(n * n), ways(n * n), share(n * n), score(n) {}
 
+    hall_tables tables() { return {n, cost.data(), time.data(), ways.data(), share.data(), score.data()}; }
+
     uint32_t work_out() {
-        return hall_work_out(n, cost.data(), cost.size(), time.data(), time.size(), ways.data(), ways.size(),
-                             share.data(), share.size(), score.data(), score.size());
+        hall_tables t = tables();
+        return hall_work_out(n, HALL_TABLES(t));
     }
-    uint32_t audit() const {
-        return hall_audit(n, cost.data(), cost.size(), time.data(), time.size(), ways.data(), ways.size(),
-                          share.data(), share.size(), score.data(), score.size());
+    uint32_t audit() {
+        hall_tables t = tables();
+        return hall_audit(n, HALL_TABLES(t));
     }
     hall_edited insert(uint64_t u, uint64_t v, uint64_t c) {
-        return hall_insert(n, u, v, c, cost.data(), cost.size(), time.data(), time.size(), ways.data(), ways.size(),
-                           share.data(), share.size(), score.data(), score.size());
+        hall_tables t = tables();
+        return hall_insert(n, u, v, c, HALL_TABLES(t));
     }
     hall_edited remove(uint64_t u, uint64_t v) {
-        return hall_delete(n, u, v, cost.data(), cost.size(), time.data(), time.size(), ways.data(), ways.size(),
-                           share.data(), share.size(), score.data(), score.size());
+        hall_tables t = tables();
+        return hall_delete(n, u, v, HALL_TABLES(t));
     }
 };
 
@@ -117,7 +119,7 @@ struct Igraph {
 
 static bool agrees(const Hall &h, const std::function<double(size_t)> &theirs) {
     for (size_t v = 0; v < h.n; v++) {
-        double ours = double(h.score[v]) / HALL_SCALE;
+        double ours = double(h.score[v]) / double(HALL_SCALE);
         if (std::fabs(ours - theirs(v)) > 1e-6 * (1 + ours)) return false;
     }
     return true;
@@ -130,7 +132,7 @@ static size_t useful_links(const Hall &h) {
 }
 
 static int measure(const std::string &name, Hall h, std::mt19937 &random) {
-    if (h.work_out() != 0) {
+    if (h.work_out() != HALL_ACCEPTED) {
         std::printf("%-28s refused\n", name.c_str());
         return 1;
     }
@@ -159,17 +161,17 @@ static int measure(const std::string &name, Hall h, std::mt19937 &random) {
     for (const Link &l : links) {
         double gone = 1e300, back = 1e300;
         hall_edited out = {}, in = {};
-        for (int round = 0; round < 10 && out.refusal == 0; round++) {
+        for (int round = 0; round < 10 && out.refusal == HALL_ACCEPTED; round++) {
             gone = std::min(gone, time_of([&] { out = h.remove(l.from, l.to); }));
-            if (out.refusal == 0) back = std::min(back, time_of([&] { in = h.insert(l.from, l.to, l.cost); }));
+            if (out.refusal == HALL_ACCEPTED) back = std::min(back, time_of([&] { in = h.insert(l.from, l.to, l.cost); }));
         }
-        if (out.refusal) continue;
+        if (out.refusal != HALL_ACCEPTED) continue;
         edit += gone + back;
         edits += 2;
         rows += out.rows + in.rows;
     }
     edit /= edits ? edits : 1;
-    same = same && h.audit() == 0;
+    same = same && h.audit() == HALL_ACCEPTED;
 
     std::printf("%-28s %5zu %6zu | %8.1f %8.1f %8.1f %5.1f | %6.2f %6.2f | %6.2f | %6.2f %6.2f | %s\n", name.c_str(),
                 links_of(h).size(), useful_links(h), ours, audit, edit, edits ? double(rows) / edits : 0.0, theirs / ours,

@@ -1,65 +1,168 @@
-/* A small hall from a C host: built, edited, scored, written as an image and read back, with a refusal shown. */
+/* A small hall from a C host: built, edited, scored, written as an image and read back, with refusals shown; then a line of
+ * 64 stops. What it prints stands in example.out. */
 #include "hall.h"
 
 #include <inttypes.h>
 #include <stdio.h>
+#include <stdlib.h>
 #include <string.h>
 
-enum { STOPS = 4, SQUARE = STOPS * STOPS };
-
-/* The host owns the five tables of a hall. */
-struct tables {
-    uint32_t cost[SQUARE];
-    uint32_t time[SQUARE];
-    uint32_t ways[SQUARE];
-    uint64_t share[SQUARE];
-    uint64_t score[STOPS];
-};
-
-#define ALL_OF(t) \
-    (t)->cost, SQUARE, (t)->time, SQUARE, (t)->ways, SQUARE, (t)->share, SQUARE, (t)->score, STOPS
-
-static void print_scores(const struct tables *t)
+/* A refusal in words. There is no default, so that the compiler names a refusal that is missing here. */
+static const char *words(uint32_t refusal)
 {
-    for (size_t v = 0; v < STOPS; v++)
-        printf("stop %zu score %" PRIu64 " = %.3f routes\n", v, t->score[v], (double)t->score[v] / HALL_SCALE);
+    switch ((hall_refusal)refusal) {
+    case HALL_ACCEPTED: return "accepted";
+    case HALL_BAD_SIZE: return "no such number of stops";
+    case HALL_BAD_LENGTH: return "a table has another length";
+    case HALL_BAD_TABLES: return "the tables are not those of a hall";
+    case HALL_BAD_STOP: return "no such two stops";
+    case HALL_BAD_COST: return "no such cost";
+    case HALL_LINK_PRESENT: return "there is a link already";
+    case HALL_LINK_ABSENT: return "there is no such link";
+    case HALL_COST_WRONG_SIDE: return "the new cost is on the wrong side of the present one";
+    case HALL_BAD_IMAGE: return "not an image of this hall";
+    case HALL_SHORT_BUFFER: return "the buffer is too short";
+    case HALL_TOO_MANY_WAYS: return "a pair would have too many ways";
+    }
+    return "not a refusal";
+}
+
+/* The host owns the tables: one block for those of 32 bits, one for those of 64. */
+static hall_tables make_tables(uint64_t n)
+{
+    size_t cells = (size_t)(n * n);
+    uint32_t *narrow = (uint32_t *)malloc(3 * cells * sizeof *narrow);
+    uint64_t *wide = (uint64_t *)malloc((cells + (size_t)n) * sizeof *wide);
+    hall_tables t;
+
+    if (!narrow || !wide) {
+        fprintf(stderr, "out of memory\n");
+        exit(1);
+    }
+    t.n = n;
+    t.cost = narrow;
+    t.time = narrow + cells;
+    t.ways = narrow + 2 * cells;
+    t.share = wide;
+    t.score = wide + cells;
+    return t;
+}
+
+static void free_tables(hall_tables t)
+{
+    free(t.cost);
+    free(t.share);
+}
+
+/* Each call, over the host's own type. */
+static inline uint32_t empty(const hall_tables *t) { return hall_empty(t->n, HALL_TABLES(*t)); }
+
+static inline uint32_t audit(const hall_tables *t) { return hall_audit(t->n, HALL_TABLES(*t)); }
+
+static inline hall_edited insert(const hall_tables *t, uint64_t from, uint64_t to, uint64_t c)
+{
+    return hall_insert(t->n, from, to, c, HALL_TABLES(*t));
+}
+
+static inline hall_edited cheapen(const hall_tables *t, uint64_t from, uint64_t to, uint64_t c)
+{
+    return hall_cheapen(t->n, from, to, c, HALL_TABLES(*t));
+}
+
+static inline hall_edited delete_link(const hall_tables *t, uint64_t from, uint64_t to)
+{
+    return hall_delete(t->n, from, to, HALL_TABLES(*t));
+}
+
+static inline hall_written image_write(const hall_tables *t, uint8_t *buffer, size_t length)
+{
+    return hall_image_write(t->n, HALL_TABLES(*t), buffer, length);
+}
+
+static inline uint32_t image_read(const hall_tables *t, const uint8_t *image, size_t length)
+{
+    return hall_image_read(t->n, image, length, HALL_TABLES(*t));
+}
+
+static void print_scores(const hall_tables *t)
+{
+    uint64_t v;
+
+    for (v = 0; v < t->n; v++)
+        printf("stop %" PRIu64 " score %" PRIu64 " = %.3f routes\n", v, t->score[v], (double)t->score[v] / (double)HALL_SCALE);
 }
 
 static void print_edit(const char *what, hall_edited e)
 {
-    printf("%-18s refusal %" PRIu32 ", %" PRIu32 " rows touched, set %#" PRIx64 "\n", what, e.refusal, e.rows, e.touched);
+    printf("%s: %" PRIu32 " %s, %" PRIu32 " rows touched, set %#" PRIx64 "\n", what, e.refusal, words(e.refusal), e.rows, e.touched);
+}
+
+static void print_call(const char *what, uint32_t refusal)
+{
+    printf("%s: %" PRIu32 " %s\n", what, refusal, words(refusal));
+}
+
+/* Says whether the hall that was read back is the one that was written, and the edited tables pass the audit. */
+static int small_hall(void)
+{
+    hall_tables hall = make_tables(4), copy = make_tables(4);
+    uint8_t image[HALL_LONGEST_IMAGE];
+    hall_written w;
+    uint32_t refusal;
+    int same;
+
+    print_call("empty hall", empty(&hall));
+    print_edit("insert 0 1 5", insert(&hall, 0, 1, 5));
+    print_edit("insert 0 2 5", insert(&hall, 0, 2, 5));
+    print_edit("insert 1 3 5", insert(&hall, 1, 3, 5));
+    print_edit("insert 2 3 5", insert(&hall, 2, 3, 5));
+    print_scores(&hall);
+
+    /* Refused: the link costs 5 already. Nothing has changed. */
+    print_edit("cheapen 2 3 5", cheapen(&hall, 2, 3, 5));
+    print_edit("cheapen 2 3 4", cheapen(&hall, 2, 3, 4));
+    print_scores(&hall);
+
+    /* The image check takes n last. */
+    w = image_write(&hall, image, sizeof image);
+    printf("image write: %" PRIu32 " %s, %" PRIu64 " bytes\n", w.refusal, words(w.refusal), w.length);
+    print_call("image check", hall_image_check(image, (size_t)w.length, hall.n));
+    print_call("image check, 5 stops", hall_image_check(image, (size_t)w.length, 5));
+    print_call("image read", image_read(&copy, image, (size_t)w.length));
+    same = memcmp(hall.score, copy.score, 4 * sizeof *hall.score) == 0;
+    printf("read back: %s\n", same ? "same scores" : "OTHER SCORES");
+
+    /* A stray write is found by the call itself. */
+    copy.ways[3] += 1;
+    print_edit("delete 2 3, damaged", delete_link(&copy, 2, 3));
+    print_edit("delete 2 3", delete_link(&hall, 2, 3));
+    print_scores(&hall);
+    refusal = audit(&hall);
+    print_call("audit", refusal);
+    free_tables(hall);
+    free_tables(copy);
+    return same && refusal == HALL_ACCEPTED;
+}
+
+/* A one-way line of 64 stops: 31 stops lie before stop 31 and 32 behind it, so that 992 routes pass it. Says whether they do. */
+static int long_line(void)
+{
+    hall_tables line = make_tables(HALL_STOPS);
+    uint64_t u;
+    int same;
+
+    empty(&line);
+    for (u = 0; u + 1 < line.n; u++)
+        insert(&line, u, u + 1, 1);
+    same = line.score[31] == 992 * HALL_SCALE;
+    printf("stop 31 of a line of 64: score %" PRIu64 ", %s\n", line.score[31], same ? "992 routes" : "OTHER SCORE");
+    free_tables(line);
+    return same;
 }
 
 int main(void)
 {
-    struct tables hall, copy;
-    uint8_t image[8 + 4 * SQUARE];
+    int small = small_hall(), line = long_line();
 
-    if (hall_empty(STOPS, ALL_OF(&hall)) != 0)
-        return 1;
-    print_edit("insert 0 1 5", hall_insert(STOPS, 0, 1, 5, ALL_OF(&hall)));
-    print_edit("insert 0 2 5", hall_insert(STOPS, 0, 2, 5, ALL_OF(&hall)));
-    print_edit("insert 1 3 5", hall_insert(STOPS, 1, 3, 5, ALL_OF(&hall)));
-    print_edit("insert 2 3 5", hall_insert(STOPS, 2, 3, 5, ALL_OF(&hall)));
-    print_scores(&hall);
-
-    /* Refused: the link costs 5 already. Nothing has changed. */
-    print_edit("cheapen 2 3 5", hall_cheapen(STOPS, 2, 3, 5, ALL_OF(&hall)));
-    print_edit("cheapen 2 3 4", hall_cheapen(STOPS, 2, 3, 4, ALL_OF(&hall)));
-    print_scores(&hall);
-
-    hall_written w = hall_image_write(STOPS, ALL_OF(&hall), image, sizeof image);
-    printf("image: refusal %" PRIu32 ", %" PRIu64 " bytes, check %" PRIu32 "\n", w.refusal, w.length,
-           hall_check_image(image, w.length, STOPS));
-    memset(&copy, 0, sizeof copy);
-    if (hall_image_read(STOPS, image, w.length, ALL_OF(&copy)) != 0)
-        return 1;
-    printf("read back: %s\n", memcmp(hall.score, copy.score, sizeof hall.score) == 0 ? "same scores" : "OTHER SCORES");
-
-    /* A stray write is found by the call itself. */
-    copy.ways[3] += 1;
-    print_edit("on damaged tables", hall_delete(STOPS, 2, 3, ALL_OF(&copy)));
-    print_edit("delete 2 3", hall_delete(STOPS, 2, 3, ALL_OF(&hall)));
-    print_scores(&hall);
-    return hall_audit(STOPS, ALL_OF(&hall)) == 0 ? 0 : 1;
+    return small && line ? 0 : 1;
 }

@@ -4,37 +4,105 @@
 /*
  * Exact scores for a hall of stops.
  *
- * A hall has n stops, 0 to n - 1, with n from 1 to 64, and one-way links that
- * cost 1 to 65,535. The host owns every table and buffer; a call keeps no
- * pointer and allocates nothing, but needs up to 96 KiB of stack. Each table
- * is passed as a pointer and the number of its entries:
+ * A hall has n stops, 0 to n - 1, with n from 1 to 64, and one-way links
+ * between them, each with a cost (its travel time) from 1 to 65,535. A stop's
+ * score is its share of the quickest routes between all other stops, times
+ * HALL_SCALE, which makes it a whole number. The calls below fill five tables
+ * of a hall, keep them right through edits of its links, and turn its links
+ * into bytes, an image, and back.
+ *
+ *
+ * LINKING
+ *
+ * `rt staticlib host` makes target/staticlib/libhost.a, which stands behind
+ * the last of the host's own files: cc host.c libhost.a. It is for x86-64
+ * Linux with 64-bit pointers (the System V calling convention) and runs on
+ * every such processor. It is position independent, so it goes into programs
+ * with -pie, -no-pie or -static and into shared objects. Of the C library it
+ * needs memcpy and memset, and nothing else. It has no variables of its own,
+ * starts nothing, calls nothing back and leaves errno alone.
+ *
+ * A call needs at most HALL_STACK bytes of stack, 96 KiB. Measured: image read
+ * 83 KiB, work out 69 KiB, all others below 4 KiB; the rest is a margin, for the
+ * dynamic linker at the first call among others.
+ *
+ *
+ * MEMORY
+ *
+ * The host owns every table, image and buffer and lends them for one call. A
+ * call allocates nothing and keeps no pointer. Each table is passed as a
+ * pointer and the number of its entries:
  *
  *   cost   n x n, 32 bits   cost of the link u to v at u * n + v, 0 for none
- *   time   n x n, 32 bits   least time s to t, HALL_MARK where there is no route
+ *   time   n x n, 32 bits   least time s to t at s * n + t, HALL_MARK where
+ *                           there is no route
  *   ways   n x n, 32 bits   number of quickest routes s to t
- *   share  n x n, 64 bits   share of v in the quickest routes from s, times HALL_SCALE
+ *   share  n x n, 64 bits   share of v in the quickest routes from s, at
+ *                           s * n + v, times HALL_SCALE
  *   score  n,     64 bits   score of v: its shares added up over all sources
  *
- * Tables, images and buffers must not overlap. They may hold anything: a call
- * refuses what it cannot use. A call that refuses changes nothing that it was
- * lent. Calls on different tables may run at the same time; calls that share a
- * table may not.
+ * Contents and lengths may be anything: a call refuses what it cannot use, and
+ * a table that a call fills may be uninitialised. Pointers may not:
  *
- * Refusals, tested in rising order, each where the call has what it tests:
- *    0  accepted
- *    1  n is 0 or above 64
- *    2  a table's length is not exactly n x n, or n for score
- *    3  the tables do not belong to their hall
- *    4  a stop is n or more, or both are the same
- *    5  a cost is 0 or above 65,535; in work out, an entry above 65,535 or a
- *       diagonal entry other than 0
- *    6  insert where a link is
- *    7  cheapen or delete where none is
- *    8  cheapen to a cost not below the present one
- *    9  the bytes are no image of a hall of n stops
- *   10  the image buffer is too short
- *   11  the hall would have a pair with more than 22 ways
+ * - What is lent to one call must not overlap. No call finds an overlap: it is
+ *   undefined behaviour, and the host may end with an illegal instruction.
+ * - Each pointer must be aligned and lead to as many entries as its length
+ *   says, even where the call will refuse. Else it is undefined behaviour;
+ *   NULL with a length other than 0 is.
+ * - NULL with length 0 is allowed everywhere, for tables, images and buffers,
+ *   and is refused like any other length that does not fit.
+ *
+ * A table that is const is only read. Calls on different tables may run at the
+ * same time, and so may calls that only read the tables they share. While a
+ * call may write a table, no other call may use it.
+ *
+ *
+ * REFUSED CALLS, AND CALLS THAT ARE CUT SHORT
+ *
+ * A call that refuses has changed nothing that it was lent, once it returns.
+ * While it runs, this does not hold: work out, image read and the edits write
+ * rows before they know that they must refuse with 11, and then put back what
+ * was there. A signal handler, another thread or a process that shares the
+ * memory can see that.
+ *
+ * A host that is killed inside a call can leave tables (in shared memory or a
+ * mapped file) that are half written. hall_audit answers 3 for tables that do
+ * not belong together. It cannot tell which links they were meant to have:
+ * the cost table may hold a link before or after its edit, and after empty
+ * hall or image read a part of the old links and a part of the new ones. So
+ * keep the last good image apart, and read it after a kill; or bring a cost
+ * table that is known to be good to work out. A half-written image can pass
+ * the image check too: keep the old one until the call has returned.
+ *
+ *
+ * REFUSALS
+ *
+ * Every call answers a refusal, 0 for accepted. Each call lists those that it
+ * knows, in the order in which it tests them, which is rising; the first that
+ * applies is the answer. The names are those of hall_refusal below.
+ *
+ *    0  HALL_ACCEPTED
+ *    1  HALL_BAD_SIZE         n is 0 or above 64
+ *    2  HALL_BAD_LENGTH       a table's length is not exactly n x n, or n for
+ *                             score
+ *    3  HALL_BAD_TABLES       the tables are not those of a hall: the cost
+ *                             table is not one that work out accepts, or the
+ *                             other four are not what it would fill
+ *    4  HALL_BAD_STOP         a stop is n or more, or both are the same
+ *    5  HALL_BAD_COST         a cost is 0 or above 65,535; in work out, an
+ *                             entry above 65,535 or a diagonal entry other
+ *                             than 0
+ *    6  HALL_LINK_PRESENT     insert where a link is
+ *    7  HALL_LINK_ABSENT      cheapen or delete where none is
+ *    8  HALL_COST_WRONG_SIDE  cheapen to a cost not below the present one
+ *    9  HALL_BAD_IMAGE        the bytes are no image of a hall of n stops
+ *   10  HALL_SHORT_BUFFER     the image buffer is too short
+ *   11  HALL_TOO_MANY_WAYS    the hall would have a pair with more than 22 ways
  */
+
+#if !defined(__x86_64__) || defined(__ILP32__) || !defined(__linux__)
+#error "libhost.a is for x86-64 Linux with 64-bit pointers"
+#endif
 
 #include <stddef.h>
 #include <stdint.h>
@@ -43,25 +111,68 @@
 extern "C" {
 #endif
 
-#define HALL_STOPS 64u
-#define HALL_LARGEST_COST 65535u
-#define HALL_WAYS 22u
-#define HALL_MARK 4294967295u
-#define HALL_SCALE 232792560u
+/* The limits, each as wide as what it is compared with or multiplied into. */
+#define HALL_STOPS UINT64_C(64)             /* most stops */
+#define HALL_LARGEST_COST UINT32_C(65535)   /* of a link */
+#define HALL_WAYS UINT32_C(22)              /* most quickest routes of a pair */
+#define HALL_MARK UINT32_C(4294967295)      /* the time where there is no route */
+#define HALL_SCALE UINT64_C(232792560)      /* one route, in a share or a score */
+#define HALL_LONGEST_IMAGE UINT64_C(16136)  /* bytes: 8, and 4 for each link */
+#define HALL_STACK UINT64_C(98304)          /* bytes of stack for any call */
 
-/* An edit's answer: its refusal, the number of touched sources, and their set
- * (bit s for source s). Refused: 0 rows and an empty set. */
+/* The numbers that calls answer, by name. */
+typedef enum {
+    HALL_ACCEPTED = 0,
+    HALL_BAD_SIZE = 1,
+    HALL_BAD_LENGTH = 2,
+    HALL_BAD_TABLES = 3,
+    HALL_BAD_STOP = 4,
+    HALL_BAD_COST = 5,
+    HALL_LINK_PRESENT = 6,
+    HALL_LINK_ABSENT = 7,
+    HALL_COST_WRONG_SIDE = 8,
+    HALL_BAD_IMAGE = 9,
+    HALL_SHORT_BUFFER = 10,
+    HALL_TOO_MANY_WAYS = 11
+} hall_refusal;
+
+/* An edit's answer: its refusal, the number of touched sources (those from
+ * which a quickest route, before or after, uses the edited link), and their
+ * set, bit s for source s. Refused: 0 rows and an empty set. */
 typedef struct {
     uint32_t refusal;
     uint32_t rows;
     uint64_t touched;
 } hall_edited;
 
-/* An image write's answer: its refusal, and the length of the image, 0 if refused. */
+/* An image write's answer: its refusal, and the length of the image, 0 if
+ * refused. Between the two lie 4 bytes of padding with unspecified content:
+ * compare the fields, not the bytes. */
 typedef struct {
     uint32_t refusal;
     uint64_t length;
 } hall_written;
+
+/* Five tables that the host has made for n stops: n x n entries each, n for
+ * score. No call takes this type; it is there for HALL_TABLES. */
+typedef struct {
+    uint64_t n;
+    uint32_t *cost;
+    uint32_t *time;
+    uint32_t *ways;
+    uint64_t *share;
+    uint64_t *score;
+} hall_tables;
+
+/* The ten arguments for the tables of t, a hall_tables or another struct with
+ * such fields: hall_insert(t.n, from, to, c, HALL_TABLES(t)). It evaluates t
+ * more than once. */
+#define HALL_TABLES(t)                   \
+    (t).cost, (size_t)((t).n * (t).n),   \
+    (t).time, (size_t)((t).n * (t).n),   \
+    (t).ways, (size_t)((t).n * (t).n),   \
+    (t).share, (size_t)((t).n * (t).n),  \
+    (t).score, (size_t)(t).n
 
 /* Fills all five tables for a hall without links. Refusals 1, 2. */
 uint32_t hall_empty(uint64_t n,
@@ -80,7 +191,7 @@ uint32_t hall_work_out(uint64_t n,
                        uint64_t *score, size_t score_length);
 
 /* 0 exactly if work out accepts the cost table and would fill the other four
- * with what they hold. Refusals 1, 2, 3. */
+ * with what they hold. Only reads. Refusals 1, 2, 3. */
 uint32_t hall_audit(uint64_t n,
                     const uint32_t *cost, size_t cost_length,
                     const uint32_t *time, size_t time_length,
@@ -88,7 +199,11 @@ uint32_t hall_audit(uint64_t n,
                     const uint64_t *share, size_t share_length,
                     const uint64_t *score, size_t score_length);
 
-/* A link and its cost. Refusals 1, 2, 3, 4, 5, 6, 11. */
+/* The edits audit the tables, change the cost of one link, and bring the other
+ * four tables up to it. */
+
+/* Adds the link from one stop to another, with cost c.
+ * Refusals 1, 2, 3, 4, 5, 6, 11. */
 hall_edited hall_insert(uint64_t n, uint64_t from, uint64_t to, uint64_t c,
                         uint32_t *cost, size_t cost_length,
                         uint32_t *time, size_t time_length,
@@ -96,7 +211,7 @@ hall_edited hall_insert(uint64_t n, uint64_t from, uint64_t to, uint64_t c,
                         uint64_t *share, size_t share_length,
                         uint64_t *score, size_t score_length);
 
-/* A link and its lower cost. Refusals 1, 2, 3, 4, 5, 7, 8, 11. */
+/* Gives a link the lower cost c. Refusals 1, 2, 3, 4, 5, 7, 8, 11. */
 hall_edited hall_cheapen(uint64_t n, uint64_t from, uint64_t to, uint64_t c,
                          uint32_t *cost, size_t cost_length,
                          uint32_t *time, size_t time_length,
@@ -104,7 +219,8 @@ hall_edited hall_cheapen(uint64_t n, uint64_t from, uint64_t to, uint64_t c,
                          uint64_t *share, size_t share_length,
                          uint64_t *score, size_t score_length);
 
-/* A link. Refusals 1, 2, 3, 4, 7, 11: closing a link can leave more ways. */
+/* Takes a link out. Refusals 1, 2, 3, 4, 7, 11: the routes that are quickest
+ * without it can be too many. */
 hall_edited hall_delete(uint64_t n, uint64_t from, uint64_t to,
                         uint32_t *cost, size_t cost_length,
                         uint32_t *time, size_t time_length,
@@ -112,8 +228,9 @@ hall_edited hall_delete(uint64_t n, uint64_t from, uint64_t to,
                         uint64_t *share, size_t share_length,
                         uint64_t *score, size_t score_length);
 
-/* Writes the hall's links to a buffer; 4 x links + 8 bytes, at most 16,136.
- * Bytes past the image stay. Refusals 1, 2, 3, 10. */
+/* Audits the tables and writes the hall's links to a buffer: 4 bytes for each
+ * and 8 more, at most HALL_LONGEST_IMAGE. The buffer may be longer; its bytes
+ * past the image stay. Refusals 1, 2, 3, 10. */
 hall_written hall_image_write(uint64_t n,
                               const uint32_t *cost, size_t cost_length,
                               const uint32_t *time, size_t time_length,
@@ -122,7 +239,8 @@ hall_written hall_image_write(uint64_t n,
                               const uint64_t *score, size_t score_length,
                               uint8_t *buffer, size_t buffer_length);
 
-/* Fills all five tables from an image. Refusals 1, 2, 9, 11. */
+/* Fills all five tables from an image, whose length must be the image's own
+ * and not that of a longer buffer. Refusals 1, 2, 9, 11. */
 uint32_t hall_image_read(uint64_t n, const uint8_t *image, size_t image_length,
                          uint32_t *cost, size_t cost_length,
                          uint32_t *time, size_t time_length,
@@ -130,9 +248,12 @@ uint32_t hall_image_read(uint64_t n, const uint8_t *image, size_t image_length,
                          uint64_t *share, size_t share_length,
                          uint64_t *score, size_t score_length);
 
-/* Whether the bytes are an image of a hall of n stops: 0, 1 or 9. An image
- * that passes may still be refused by the read with 11. */
-uint32_t hall_check_image(const uint8_t *image, size_t image_length, uint64_t n);
+/* Whether the bytes are an image of a hall of n stops. An image that passes
+ * may still be refused by the read, with 11. Refusals 1, 9.
+ *
+ * NOTE the order: here n comes LAST, in every other call it comes first. The
+ * compiler cannot see a length and an n that are swapped. */
+uint32_t hall_image_check(const uint8_t *image, size_t image_length, uint64_t n);
 
 #ifdef __cplusplus
 }

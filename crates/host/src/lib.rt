@@ -8,7 +8,7 @@ use hall::audit::audit;
 use hall::code::code;
 use hall::empty::empty_hall;
 use hall::work::work_out;
-use images::image_check::hall_image_check;
+use images::image_check::image_check;
 use images::image_read::image_read;
 use images::image_write::image_write;
 ghost use mathlib.Core.Path.{_≡_};
@@ -203,10 +203,10 @@ pub extern "C" fn hall_image_read(
     code(image_read(n, image, cost, time, ways, share, score))
 }
 
-// 0 for an image of a hall of n stops, else 1 or 9.
+// 0 for an image of a hall of n stops, else 1 or 9. Document 01 has the bytes before n.
 #[no_mangle]
-pub extern "C" fn hall_check_image(image: &[u8], n: u64) -> u32
+pub extern "C" fn hall_image_check(image: &[u8], n: u64) -> u32
     ensures { λ r. ⌜ r ≡ number (imageCheck n (now (image .entry))) ⌝ }
 {
-    hall_image_check(image, n)
+    code(image_check(image, n))
 }

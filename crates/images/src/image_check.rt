@@ -1,12 +1,13 @@
 // Image check: whether bytes are an image of a hall. A reader starts at the end, with the trailer.
 use super::fields;
+use book::Refusal;
 use hall::limits::Hall;
 ghost use mathlib.Core.Path.{_≡_};
 ghost use Prim.Native.Nat.{_+_, _*_, _<_, _≤_};
 ghost use lib.ListN.{length};
 ghost use Rattle.routes.specs.Route.{allTo};
 ghost use Rattle.book.specs.Hall.{validRecord, isImage};
-ghost use Rattle.book.specs.Call.{number, imageCheck};
+ghost use Rattle.book.specs.Call.{imageCheck};
 ghost use Rattle.images.specs.ImagePromise.{keyAt, linkAt};
 
 // The place of a record in the order: its two stops as one number.
@@ -78,16 +79,15 @@ pub fn is_image(n: usize, image: &[u8]) -> bool
     links_rise(n, links, image)
 }
 
-// 0 for an image of a hall of n stops, else 1 or 9.
-#[no_mangle]
-pub extern "C" fn hall_image_check(image: &[u8], n: u64) -> u32
-    ensures { λ r. ⌜ r ≡ number (imageCheck n (now (image .entry))) ⌝ }
+// Image check: accepted for an image of a hall of n stops, else the first refusal of the two that it tests.
+pub fn image_check(image: &[u8], n: u64) -> Refusal
+    ensures { λ r. ⌜ r ≡ imageCheck n (now (image .entry)) ⌝ }
 {
     if !Hall::takes(n) {
-        return 1;
+        return Refusal::BadSize;
     }
     if !is_image(n as usize, image) {
-        return 9;
+        return Refusal::BadImage;
     }
-    0
+    Refusal::Accepted
 }

@@ -162,5 +162,5 @@ pub fn look(
 }
 
 pub fn image_check(image: &[u8], n: u64) -> u64 {
-    images::image_check::hall_image_check(image, n) as u64
+    number(images::image_check::image_check(image, n))
 }

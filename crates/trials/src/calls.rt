@@ -14,7 +14,7 @@ use hall::audit::audit;
 use hall::code::code;
 use hall::empty::empty_hall;
 use hall::work::work_out;
-use images::image_check::hall_image_check;
+use images::image_check::image_check;
 use images::image_read::image_read;
 use images::image_write::Written;
 use images::image_write::image_write;
@@ -182,7 +182,7 @@ fn image(
     match call {
         WRITE => written(image_write(n, cost, time, ways, share, score, bytes)),
         READ => plain(image_read(n, bytes, cost, time, ways, share, score)),
-        _ => number(hall_image_check(bytes, n)),
+        _ => plain(image_check(bytes, n)),
     }
 }
 

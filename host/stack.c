@@ -1,0 +1,93 @@
+/* Measures how deep each call goes, on a stack of its own that is filled with one byte before it. Fails above HALL_STACK.
+ * Calls that write rows go deepest, here on 64 stops; most of them are refused with 11 and put the rows back. */
+#include "hall.h"
+
+#include <stdio.h>
+#include <string.h>
+#include <ucontext.h>
+
+enum { N = 64, CELLS = N * N, ROOM = 1 << 20, UNUSED = 0xa5 };
+
+static uint32_t cost[CELLS], time[CELLS], ways[CELLS];
+static uint64_t share[CELLS], score[N];
+static uint8_t image[HALL_LONGEST_IMAGE];
+static hall_tables t = {N, cost, time, ways, share, score};
+static size_t image_length;
+
+static unsigned char room[ROOM] __attribute__((aligned(4096)));
+static ucontext_t here, there;
+static uint32_t answer;
+
+static void empty(void) { answer = hall_empty(N, HALL_TABLES(t)); }
+static void work_out(void) { answer = hall_work_out(N, HALL_TABLES(t)); }
+static void audit(void) { answer = hall_audit(N, HALL_TABLES(t)); }
+static void insert(void) { answer = hall_insert(N, 0, 1, 10, HALL_TABLES(t)).refusal; }
+static void cheapen(void) { answer = hall_cheapen(N, 0, 1, 10, HALL_TABLES(t)).refusal; }
+static void delete_link(void) { answer = hall_delete(N, 0, 1, HALL_TABLES(t)).refusal; }
+static void image_read(void) { answer = hall_image_read(N, image, image_length, HALL_TABLES(t)); }
+static void image_check(void) { answer = hall_image_check(image, image_length, N); }
+
+static void image_write(void)
+{
+    hall_written w = hall_image_write(N, HALL_TABLES(t), image, sizeof image);
+
+    answer = w.refusal;
+    image_length = w.length;
+}
+
+/* Runs a call on the stack of its own. */
+static void run(void (*call)(void))
+{
+    memset(room, UNUSED, sizeof room);
+    getcontext(&there);
+    there.uc_stack.ss_sp = room;
+    there.uc_stack.ss_size = sizeof room;
+    there.uc_link = &here;
+    makecontext(&there, call, 0);
+    swapcontext(&here, &there);
+}
+
+/* Prints how much stack a call uses, and says whether it fits and the answer is the expected one. */
+static int fits(const char *name, void (*call)(void), uint32_t expected)
+{
+    size_t unused = 0;
+    int good;
+
+    run(call);
+    while (unused < ROOM && room[unused] == UNUSED)
+        unused++;
+    good = answer == expected && ROOM - unused <= HALL_STACK;
+    printf("%-12s refusal %2u  %6zu bytes of stack%s\n", name, answer, ROOM - unused, good ? "" : ": NOT SO EXPECTED");
+    return good;
+}
+
+/* A hall with `between` ways of time 10 from 0 to 1, each over one stop, and a direct link that costs `direct`. */
+static void lay(uint64_t between, uint32_t direct)
+{
+    memset(cost, 0, sizeof cost);
+    for (uint64_t v = 2; v < 2 + between; v++)
+        cost[v] = cost[v * N + 1] = 5;
+    cost[1] = direct;
+}
+
+int main(void)
+{
+    int good = fits("empty hall", empty, HALL_ACCEPTED);
+
+    lay(22, 0);
+    good &= fits("work out", work_out, HALL_ACCEPTED);
+    good &= fits("insert", insert, HALL_TOO_MANY_WAYS);
+    lay(22, 11);
+    good &= fits("work out", work_out, HALL_ACCEPTED);
+    good &= fits("cheapen", cheapen, HALL_TOO_MANY_WAYS);
+    lay(23, 0);
+    good &= fits("work out", work_out, HALL_TOO_MANY_WAYS);
+    lay(23, 9);
+    good &= fits("work out", work_out, HALL_ACCEPTED);
+    good &= fits("delete", delete_link, HALL_TOO_MANY_WAYS);
+    good &= fits("audit", audit, HALL_ACCEPTED);
+    good &= fits("image write", image_write, HALL_ACCEPTED);
+    good &= fits("image check", image_check, HALL_ACCEPTED);
+    good &= fits("image read", image_read, HALL_ACCEPTED);
+    return !good;
+}

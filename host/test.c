@@ -1,0 +1,130 @@
+/* What hall.h says of the archive, and no proof covers, tried: widths and layout, the name of each refusal, the order of the
+ * arguments, NULL with length 0, the longest image. Prints what does not hold. */
+#include "hall.h"
+
+#include <stdio.h>
+#include <string.h>
+
+/* A score is a product in 64 bits; entries of 32 bits are compared in 32. */
+_Static_assert(992 * HALL_SCALE == 230930219520, "a product with the scale must not wrap");
+_Static_assert(sizeof HALL_SCALE == sizeof(uint64_t) && sizeof HALL_STOPS == sizeof(uint64_t), "as wide as a score, as n");
+_Static_assert(sizeof HALL_MARK == sizeof(uint32_t) && sizeof HALL_WAYS == sizeof(uint32_t), "as wide as an entry");
+_Static_assert(sizeof HALL_LARGEST_COST == sizeof(uint32_t), "as wide as an entry");
+
+/* Two registers each, as the archive returns them. */
+_Static_assert(sizeof(hall_edited) == 16 && offsetof(hall_edited, rows) == 4 && offsetof(hall_edited, touched) == 8, "layout");
+_Static_assert(sizeof(hall_written) == 16 && offsetof(hall_written, length) == 8, "layout, with 4 bytes of padding");
+
+static int wrong;
+
+#define HOLDS(fact)                                              \
+    do {                                                         \
+        if (!(fact)) {                                           \
+            printf("test.c:%d: not so: %s\n", __LINE__, #fact);  \
+            wrong++;                                             \
+        }                                                        \
+    } while (0)
+
+enum { MOST = 64 * 64 };
+
+static uint32_t cost[MOST], time[MOST], ways[MOST];
+static uint64_t share[MOST], score[64];
+static uint8_t buffer[HALL_LONGEST_IMAGE];
+
+static hall_tables tables_of(uint64_t n)
+{
+    return (hall_tables){.n = n, .cost = cost, .time = time, .ways = ways, .share = share, .score = score};
+}
+
+#define NONE NULL, 0, NULL, 0, NULL, 0, NULL, 0, NULL, 0
+
+/* NULL with length 0 is a length that does not fit, in tables, images and buffers alike. */
+static void null_is_empty(void)
+{
+    hall_tables t = tables_of(2);
+
+    for (uint64_t n = 0; n < 3; n++) {
+        uint32_t expected = n == 0 ? HALL_BAD_SIZE : HALL_BAD_LENGTH;
+        HOLDS(hall_empty(n, NONE) == expected);
+        HOLDS(hall_work_out(n, NONE) == expected);
+        HOLDS(hall_audit(n, NONE) == expected);
+        HOLDS(hall_insert(n, 0, 1, 1, NONE).refusal == expected);
+        HOLDS(hall_cheapen(n, 0, 1, 1, NONE).refusal == expected);
+        HOLDS(hall_delete(n, 0, 1, NONE).refusal == expected);
+        HOLDS(hall_image_write(n, NONE, NULL, 0).refusal == expected);
+        HOLDS(hall_image_read(n, NULL, 0, NONE) == expected);
+        HOLDS(hall_image_check(NULL, 0, n) == (n == 0 ? HALL_BAD_SIZE : HALL_BAD_IMAGE));
+    }
+    HOLDS(hall_empty(t.n, HALL_TABLES(t)) == HALL_ACCEPTED);
+    HOLDS(hall_image_write(t.n, HALL_TABLES(t), NULL, 0).refusal == HALL_SHORT_BUFFER);
+    HOLDS(hall_image_read(t.n, NULL, 0, HALL_TABLES(t)) == HALL_BAD_IMAGE);
+}
+
+/* Each refusal has the number that its name has, and the link goes from the first stop to the second. */
+static void names_fit(void)
+{
+    hall_tables t = tables_of(3), other = tables_of(4);
+    hall_edited e;
+
+    HOLDS(hall_empty(0, HALL_TABLES(t)) == HALL_BAD_SIZE);
+    HOLDS(hall_empty(3, HALL_TABLES(other)) == HALL_BAD_LENGTH);
+    HOLDS(hall_empty(3, HALL_TABLES(t)) == HALL_ACCEPTED);
+    e = hall_insert(3, 2, 1, 7, HALL_TABLES(t));
+    HOLDS(e.refusal == HALL_ACCEPTED && e.rows == 1 && e.touched == 4 && cost[2 * 3 + 1] == 7);
+    HOLDS(hall_insert(3, 2, 3, 7, HALL_TABLES(t)).refusal == HALL_BAD_STOP);
+    HOLDS(hall_insert(3, 0, 1, HALL_LARGEST_COST + 1, HALL_TABLES(t)).refusal == HALL_BAD_COST);
+    HOLDS(hall_insert(3, 2, 1, 7, HALL_TABLES(t)).refusal == HALL_LINK_PRESENT);
+    HOLDS(hall_delete(3, 1, 2, HALL_TABLES(t)).refusal == HALL_LINK_ABSENT);
+    HOLDS(hall_cheapen(3, 2, 1, 7, HALL_TABLES(t)).refusal == HALL_COST_WRONG_SIDE);
+    HOLDS(time[2 * 3 + 1] == 7 && time[1 * 3 + 2] == HALL_MARK);
+    HOLDS(hall_image_write(3, HALL_TABLES(t), buffer, 11).refusal == HALL_SHORT_BUFFER);
+    HOLDS(hall_image_write(3, HALL_TABLES(t), buffer, 12).length == 12);
+    HOLDS(hall_image_check(buffer, 12, 3) == HALL_ACCEPTED);
+    HOLDS(hall_image_check(buffer, 12, 4) == HALL_BAD_IMAGE);
+    HOLDS(hall_image_check(buffer, 12, 65) == HALL_BAD_SIZE);
+    ways[2 * 3 + 1]++;
+    HOLDS(hall_audit(3, HALL_TABLES(t)) == HALL_BAD_TABLES);
+    HOLDS(hall_image_read(3, buffer, 12, HALL_TABLES(t)) == HALL_ACCEPTED);
+    HOLDS(hall_audit(3, HALL_TABLES(t)) == HALL_ACCEPTED);
+}
+
+/* 22 stops between 0 and 1 make as many ways; one more is refused, and leaves what was there. */
+static void most_ways(void)
+{
+    hall_tables t = tables_of(25);
+    uint64_t middle = 2 + HALL_WAYS;
+
+    memset(cost, 0, sizeof cost);
+    for (uint64_t v = 2; v < middle; v++)
+        cost[v] = cost[v * t.n + 1] = 5;
+    HOLDS(hall_work_out(t.n, HALL_TABLES(t)) == HALL_ACCEPTED);
+    HOLDS(ways[1] == HALL_WAYS && score[2] == HALL_SCALE / HALL_WAYS);
+    HOLDS(hall_insert(t.n, 0, middle, 5, HALL_TABLES(t)).refusal == HALL_ACCEPTED);
+    HOLDS(hall_insert(t.n, middle, 1, 5, HALL_TABLES(t)).refusal == HALL_TOO_MANY_WAYS);
+    HOLDS(hall_audit(t.n, HALL_TABLES(t)) == HALL_ACCEPTED);
+}
+
+/* All links of the largest hall make the longest image. */
+static void longest_image(void)
+{
+    hall_tables t = tables_of(HALL_STOPS);
+    hall_written w;
+
+    for (uint64_t u = 0; u < t.n; u++)
+        for (uint64_t v = 0; v < t.n; v++)
+            cost[u * t.n + v] = u == v ? 0 : HALL_LARGEST_COST;
+    HOLDS(hall_work_out(t.n, HALL_TABLES(t)) == HALL_ACCEPTED);
+    HOLDS(hall_image_write(t.n, HALL_TABLES(t), buffer, sizeof buffer - 1).refusal == HALL_SHORT_BUFFER);
+    w = hall_image_write(t.n, HALL_TABLES(t), buffer, sizeof buffer);
+    HOLDS(w.refusal == HALL_ACCEPTED && w.length == HALL_LONGEST_IMAGE);
+    HOLDS(hall_work_out(HALL_STOPS + 1, HALL_TABLES(t)) == HALL_BAD_SIZE);
+}
+
+int main(void)
+{
+    null_is_empty();
+    names_fit();
+    most_ways();
+    longest_image();
+    return wrong != 0;
+}
