@@ -41,7 +41,7 @@ untouched n r p h k b = λ i. record {
   buffer = b;
 }
 
-pub reply-refused : (n : ℕ) (r : Refusal) (x : Rule) → accepted r ≡ false →
+reply-refused : (n : ℕ) (r : Refusal) (x : Rule) → accepted r ≡ false →
     reply n r x ≡ record { refusal = r; touched = 0; rows = 0; length = 0; buffer = x .buffer }
 unfolding reply
 reply-refused n r x e = rw e (untouched n r (λ s. false) (λ s. refl) 0 (x .buffer))
@@ -56,6 +56,16 @@ rule-buffer n (edit k u v c) cost = refl
 rule-buffer n (imageWrite buffer) cost = refl
 rule-buffer n (imageRead image) cost = refl
 
+-- its refusal alone, and the buffer as found
+abbrev pub saysOnly : Refusal → Ask → Answer
+saysOnly r ask = record { refusal = r; touched = 0; rows = 0; length = 0; buffer = bufferOf ask }
+
+refused-answer : (c : Call) (t : Tables) → accepted (refusal c t) ≡ false → answer c t ≡ saysOnly (refusal c t) (c .ask)
+unfolding answer
+refused-answer c t e =
+    reply-refused (c .n) (refusal c t) (rule (c .n) (c .ask) (t .cost)) e ∙
+    ap (λ b. record { refusal = refusal c t; touched = 0; rows = 0; length = 0; buffer = b }) (rule-buffer (c .n) (c .ask) (t .cost))
+
 -- the refusal of an answer is the call's
 answered : (c : Call) (t : Tables) → answer c t .refusal ≡ refusal c t
 unfolding answer reply
@@ -63,18 +73,22 @@ answered c t = refl
 
 -- every call, on any tables
 pub refused-unchanged : (c : Call) (t t′ : Tables) (a : Answer) → Done c t t′ a → accepted (a .refusal) ≡ false → Unchanged c t t′ a
-unfolding after answer
+unfolding after
 refused-unchanged c t t′ a d closed =
-    let r : Rule = rule (c .n) (c .ask) (t .cost) in
     let same : accepted (refusal c t) ≡ false = ap accepted (sym (ap (λ a. a .refusal) (d .answered) ∙ answered c t)) ∙ closed in
-    let said = d .answered ∙ reply-refused (c .n) (refusal c t) r same in
+    let said = d .answered ∙ refused-answer c t same in
     record {
       tables = d .left ∙ rw same;
       set = ap (λ a. a .touched) said;
       number = ap (λ a. a .rows) said;
       written = ap (λ a. a .length) said;
-      buffer = ap (λ a. a .buffer) said ∙ rule-buffer (c .n) (c .ask) (t .cost);
+      buffer = ap (λ a. a .buffer) said;
     }
+
+-- and the other way round: this is all that a refused call has to do
+pub refused-done : (c : Call) (t : Tables) (r : Refusal) → refusal c t ≡ r → accepted r ≡ false → Done c t t (saysOnly r (c .ask))
+unfolding after
+refused-done c t r e f = record { left = rw (e, f); answered = sym (refused-answer c t (rw e f) ∙ ap (λ r. saysOnly r (c .ask)) e) }
 
 -- in a sequence the five tables after it are those before it
 pub refused-kept : (s : Step) (t : Tables) → Done (s .call) (lent (s .call .ask) t) (s .left) (s .answer) → accepted (s .answer .refusal) ≡ false → kept s t ≡ t

@@ -11,7 +11,7 @@ use Rattle.routes.specs.Route.{setOf}
 use Rattle.routes.specs.Bits.{ones-setOf}
 use borrow.Author.Tests.{eqb-true, eqb-false, ltb-true, leb-true, not-true}
 use Rattle.book.specs.Hall.{Tables, mostStops, largestCost, mostWays, scale, upTo, entry, filled, sized, validPair, uncrowded, right, touched}
-use Rattle.book.specs.Call.{audit, edit, accepted, need, costTests, waysTest, edited, rule, Answer, reply, refusal, after, answer}
+use Rattle.book.specs.Call.{audit, edit, accepted, need, costTests, waysTest, edited, rule, Answer, reply, refusal, after, answer, Done}
 use Rattle.book.specs.declared.Kind.{Kind}
 use Rattle.book.specs.declared.Kind.the-variants.{Insert, Cheapen, Delete}
 use Rattle.book.specs.declared.Refusal.{Refusal}
@@ -19,7 +19,7 @@ use Rattle.book.specs.declared.Refusal.the-variants.{Accepted, BadSize, BadLeng
 use Rattle.book.specs.Filled.{sized-cost, right-true}
 use Rattle.book.specs.Passed.{need-true, newCost, cost-tests}
 use Rattle.book.specs.Steps.{edited-set}
-use Rattle.hall.specs.Promise.{tables, says, Done, Shares, summed, Attempted}
+use Rattle.hall.specs.Promise.{tables, says, Shares, summed, Attempted}
 use Rattle.hall.specs.Sums.{summed-whole}
 use Rattle.hall.specs.Worked.{worked-shares, worked-scores}
 use Rattle.edits.specs.EditLaws.{square′, valid′}

@@ -16,8 +16,8 @@ ghost use Prim.Native.Nat.{ℕ, _+_, _*_, _<_, _≤_};
 ghost use lib.ListN.{length, set as put};
 ghost use Rattle.routes.specs.Route.{has};
 ghost use Rattle.book.specs.Hall.{mostStops, mostWays, scale, upTo, entry, sized, validCosts, right};
-ghost use Rattle.book.specs.Call.{edit};
-ghost use Rattle.hall.specs.Promise.{tables, Done, Square, Attempted};
+ghost use Rattle.book.specs.Call.{edit, Done};
+ghost use Rattle.hall.specs.Promise.{tables, Square, Attempted};
 ghost use Rattle.edits.specs.EditPromise.{Found, Change, Reworked, Applied};
 
 // Works the rows of a set out in place, over all links or over the useful ones and the link u to v. Says whether a pair has too many ways.

@@ -9,9 +9,9 @@ use hall::audit;
 use hall::code::code;
 ghost use mathlib.Core.Path.{_≡_};
 ghost use mathlib.Core.List.{[]};
-ghost use Rattle.book.specs.Call.{edit};
+ghost use Rattle.book.specs.Call.{edit, Done};
 ghost use Rattle.book.specs.declared.Kind.the-variants.{Insert, Cheapen, Delete};
-ghost use Rattle.hall.specs.Promise.{tables, Done};
+ghost use Rattle.hall.specs.Promise.{tables};
 
 // The answer of an edit: the set of touched sources, bit s for source s, and their number.
 pub struct Edited {

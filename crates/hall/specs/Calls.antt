@@ -1,5 +1,5 @@
 -- From the tests of a call to what it promises. Assumes nothing.
-use Prim.Native.Nat.{ℕ, _*_, _^_, _<_, _≤_}
+use Prim.Native.Nat.{ℕ, _*_, _<_, _≤_}
 use mathlib.Core.Path.{_≡_, refl, sym, _∙_}
 use mathlib.Core.Bool.{Bool, true, false, cond, not, _&&_, _||_, and-eq-true-iff}
 use mathlib.Core.List.{List, [], _++_}
@@ -7,13 +7,13 @@ use lib.Dec.{eqb, leb}
 use lib.ListN.{length, drop}
 use borrow.Author.Tests.{eqb-true, leb-true, not-true, not-false}
 use Rattle.routes.specs.Route.{sumTo, setOf}
-use Rattle.routes.specs.Sums.{sumTo-zero}
 use Rattle.book.specs.Hall.{Tables, mostStops, mostWays, scale, upTo, filled, sized, right}
 use Rattle.book.specs.Filled.{right-true}
-use Rattle.book.specs.Call.{Call, audit, Rule, Answer, accepted, need, plain, rule, reply, refusal, after, answer}
+use Rattle.book.specs.Call.{Call, audit, Answer, accepted, need, plain, rule, reply, refusal, after, answer, Done}
+use Rattle.book.specs.Refused.{bufferOf, untouched, refused-done}
 use Rattle.book.specs.declared.Refusal.{Refusal}
 use Rattle.book.specs.declared.Refusal.the-variants.{Accepted, BadSize, BadLength, BadTables}
-use Rattle.hall.specs.Promise.{says, Done}
+use Rattle.hall.specs.Promise.{says}
 
 -- what the answer r of a test says of its definition x, where the code goes on only if it holds
 pub failed : {r x : Bool} → r ≡ x → not r ≡ true → x ≡ false
@@ -44,24 +44,7 @@ lengths n t e =
     let (d, f) = and-eq-true-iff (square (t .share)) (eqb (length (t .score)) n) .0 e₃ in
     record { costs = eqb-true _ _ a; times = eqb-true _ _ b; counts = eqb-true _ _ c; shares = eqb-true _ _ d; scores = eqb-true _ _ f }
 
--- a set of no source is 0, and so is its number
-pub untouched : (n : ℕ) (r : Refusal) (p : ℕ → Bool) → ((s : ℕ) → p s ≡ false) → (k : ℕ) (b : List ℕ) →
-    _≡_ {A = Answer} (record { refusal = r; touched = setOf n p; rows = sumTo n (λ s. cond (p s) 1 0); length = k; buffer = b })
-    (record { refusal = r; touched = 0; rows = 0; length = k; buffer = b })
-unfolding setOf
-untouched n r p h k b = λ i. record {
-  refusal = r;
-  touched = sumTo-zero n {f = λ s. cond (p s) (2 ^ s) 0} (λ s l. rw (h s)) i;
-  rows = sumTo-zero n {f = λ s. cond (p s) 1 0} (λ s l. rw (h s)) i;
-  length = k;
-  buffer = b;
-}
-
--- a refused call says its refusal alone, and so does one that is plain
-reply-refused : (n : ℕ) (r : Refusal) (x : Rule) → accepted r ≡ false → x .buffer ≡ [] → reply n r x ≡ says r
-unfolding reply
-reply-refused n r x e b = rw (e, b) (untouched n r (λ s. false) (λ s. refl) 0 [])
-
+-- a call that is plain says its refusal alone
 reply-plain : (n : ℕ) (r : Refusal) (a : Bool) (tests : Refusal) (left : List ℕ) → reply n r (plain a tests left) ≡ says r
 unfolding reply
 reply-plain n r a tests left = go (accepted r)
@@ -85,10 +68,9 @@ module _ (c : Call) (t : Tables) where
   unfolding refusal
   on-tables e f = rw (e, f)
 
-  -- a refused call leaves the tables
-  pub refused : (r : Refusal) → rule (c .n) (c .ask) (t .cost) .buffer ≡ [] → refusal c t ≡ r → accepted r ≡ false → Done c t t (says r)
-  unfolding after answer
-  refused r b e f = record { left = rw (e, f); answered = rw e (sym (reply-refused (c .n) r _ f b)) }
+  -- a refused call that is lent no buffer leaves the tables and says its refusal alone
+  pub refused : (r : Refusal) → bufferOf (c .ask) ≡ [] → refusal c t ≡ r → accepted r ≡ false → Done c t t (says r)
+  refused r b e f = rw b at (refused-done c t r e f)
 
 -- an accepted call that is plain leaves the tables of the costs that it leaves
 module _ (c : Call) (t t′ : Tables) (a : Bool) (tests : Refusal) (left : List ℕ) where

@@ -10,7 +10,7 @@ use Rattle.routes.specs.Route.{Costs, mark, sumTo, listTo, allTo, has, leastTim
 use Rattle.routes.specs.Equations.{cappedWays, openShare}
 use Rattle.row.specs.Promise.{masked, isRow}
 use Rattle.book.specs.Hall.{Tables, largestCost, mostWays, scale, entry, filled, uncrowded}
-use Rattle.book.specs.Call.{Call, Answer, after, answer}
+use Rattle.book.specs.Call.{Answer}
 use Rattle.book.specs.declared.Refusal.{Refusal}
 
 -- five lent tables
@@ -20,11 +20,6 @@ tables cost time ways share score = record { cost = cost; time = time; ways = wa
 -- the answer of a call that names no set and writes no byte
 abbrev pub says : Refusal → Answer
 says r = record { refusal = r; touched = 0; rows = 0; length = 0; buffer = [] }
-
--- a call did what document 01 says: the tables it left, and what it answered
-pub record Done (c : Call) (t t′ : Tables) (a : Answer) : Type 0 where
-  pub left : t′ ≡ after c t
-  pub answered : a ≡ answer c t
 
 -- the place r where row s of a table begins
 pub record Starts (n s r : ℕ) : Type 0 where

@@ -7,9 +7,9 @@ use lib.ListN.{length}
 use borrow.Author.Tests.{eq-eqb}
 use Rattle.routes.specs.Sums.{cond-true, cond-false}
 use Rattle.book.specs.Hall.{Tables, mostStops, upTo, filled, sized, validCosts}
-use Rattle.book.specs.Call.{Call, workOut, need, waysTest, rule, refusal}
+use Rattle.book.specs.Call.{Call, workOut, need, waysTest, rule, refusal, Done}
 use Rattle.book.specs.declared.Refusal.the-variants.{Accepted, BadCost, TooManyWays}
-use Rattle.hall.specs.Promise.{tables, says, Done, Attempted, Shares, summed}
+use Rattle.hall.specs.Promise.{tables, says, Attempted, Shares, summed}
 use Rattle.hall.specs.Calls.{stops, lengths, on-tables, refused, passed}
 use Rattle.hall.specs.Sums.{summed-whole}
 use Rattle.hall.specs.Worked.{worked-scores, worked-shares}

@@ -3,8 +3,8 @@ use super::limits::Hall;
 use super::places;
 use super::sound;
 use book::Refusal;
-ghost use Rattle.book.specs.Call.{audit};
-ghost use Rattle.hall.specs.Promise.{tables, says, Done};
+ghost use Rattle.book.specs.Call.{audit, Done};
+ghost use Rattle.hall.specs.Promise.{tables, says};
 
 pub fn audit(
     n: u64,

@@ -5,8 +5,8 @@ use book::Refusal;
 ghost use mathlib.Core.Path.{_≡_};
 ghost use Prim.Native.Nat.{_*_, _≤_};
 ghost use lib.ListN.{length, replicate};
-ghost use Rattle.book.specs.Call.{emptyHall};
-ghost use Rattle.hall.specs.Promise.{tables, says, Done, Blank, Diagonal};
+ghost use Rattle.book.specs.Call.{emptyHall, Done};
+ghost use Rattle.hall.specs.Promise.{tables, says, Blank, Diagonal};
 
 // No link, no time, no way and no share.
 fn blank(cells: usize, cost: &mut [u32], time: &mut [u32], ways: &mut [u32], share: &mut [u64])

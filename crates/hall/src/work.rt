@@ -12,8 +12,8 @@ ghost use mathlib.Core.Bool.{true};
 ghost use Prim.Native.Nat.{_*_, _<_, _≤_};
 ghost use lib.ListN.{length};
 ghost use Rattle.book.specs.Hall.{validCosts};
-ghost use Rattle.book.specs.Call.{workOut};
-ghost use Rattle.hall.specs.Promise.{tables, says, Done, Square, Attempted};
+ghost use Rattle.book.specs.Call.{workOut, Done};
+ghost use Rattle.hall.specs.Promise.{tables, says, Square, Attempted};
 
 // Works out every row over valid costs. Where a pair has too many ways, it says false and the tables are as they were.
 pub fn attempt(

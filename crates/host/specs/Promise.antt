@@ -1,10 +1,9 @@
 -- What the C face promises: the call that it hands on, and document 01's number for its refusal. Assumes nothing.
 use Prim.Native.Nat.{ℕ}
-use mathlib.Core.Path.{_≡_, _∙_, ap}
+use mathlib.Core.Path.{_≡_, refl, _∙_, ap}
 use mathlib.Core.List.{List}
 use Rattle.book.specs.Hall.{Tables}
-use Rattle.book.specs.Call.{Call, Answer, number, after, answer}
-use Rattle.hall.specs.Promise.{Done}
+use Rattle.book.specs.Call.{Call, Answer, number, after, answer, Done}
 
 -- a call did what document 01 says: the tables it left, the number of its refusal, and the rest of its answer
 pub record Handed (c : Call) (t t′ : Tables) (r touched rows length : ℕ) (buffer : List ℕ) : Type 0 where
@@ -27,3 +26,8 @@ handed d refused set counted written bytes = record {
   written = written ∙ ap (λ a. a .length) (d .answered);
   bytes = bytes ∙ ap (λ a. a .buffer) (d .answered);
 }
+
+-- so a call through the C face is a step of demand 3, and what it gives are the parts of its answer
+pub handed-done : {c : Call} {t t′ : Tables} {r touched rows length : ℕ} {buffer : List ℕ} → Handed c t t′ r touched rows length buffer →
+    (a : Answer) × Done c t t′ a × (r ≡ number (a .refusal)) × (touched ≡ a .touched) × (rows ≡ a .rows) × (length ≡ a .length) × (buffer ≡ a .buffer)
+handed-done {c} {t} h = (answer c t, record { left = h .left; answered = refl }, h .refusal, h .set, h .number, h .written, h .bytes)

@@ -9,11 +9,11 @@ use lib.ListN.{take, set, replicate, length-replicate, replicate-append-replicat
 use lib.Seq.{take-at}
 use Rattle.routes.specs.Sums.{cond-true, cond-false}
 use Rattle.book.specs.Hall.{Tables, mostStops, upTo, filled, sized, isImage, costsOf}
-use Rattle.book.specs.Call.{Call, imageRead, need, waysTest, rule, refusal}
+use Rattle.book.specs.Call.{Call, imageRead, need, waysTest, rule, refusal, Done}
 use Rattle.book.specs.declared.Refusal.the-variants.{Accepted, BadImage, TooManyWays}
 use Rattle.book.specs.RecordLaws.{from, to, costAt, costsTo, costs-more}
 use Rattle.book.specs.ImageLaws.{Image, length-read, read-valid}
-use Rattle.hall.specs.Promise.{tables, says, Done, Attempted, Shares, summed}
+use Rattle.hall.specs.Promise.{tables, says, Attempted, Shares, summed}
 use Rattle.images.specs.ImagePromise.{Loaded}
 use Rattle.hall.specs.Calls.{stops, lengths, on-tables, refused, passed}
 use Rattle.hall.specs.Sums.{summed-whole}

@@ -12,15 +12,15 @@ use lib.Seq.{sets}
 use borrow.Author.Tests.{le-leb, lt-leb}
 use Rattle.routes.specs.Route.{sumTo}
 use Rattle.book.specs.Hall.{Tables, mostStops, mostWays, scale, upTo, entry, sized, right, imageOf}
-use Rattle.book.specs.Call.{Call, imageWrite, Answer, accepted, need, rule, reply, refusal, after, answer}
+use Rattle.book.specs.Call.{Call, imageWrite, Answer, accepted, need, rule, reply, refusal, after, answer, Done}
 use Rattle.book.specs.declared.Refusal.{Refusal}
 use Rattle.book.specs.declared.Refusal.the-variants.{Accepted, BadTables, ShortBuffer}
 use Rattle.book.specs.ByteLaws.{stored as put}
 use Rattle.book.specs.WriterLaws.{linkRecord, recordsTo, linksTo, trailer, records-none, records-more, records-row, links-more, links-row, links-grow, length-record, length-records, length-image, trailer-stored}
 use Rattle.book.specs.Filled.{right-true}
-use Rattle.hall.specs.Promise.{Done}
 use Rattle.images.specs.ImagePromise.{linkBit, linkBytes, links, writes, stored, Wrote}
-use Rattle.hall.specs.Calls.{untouched, on-tables}
+use Rattle.book.specs.Refused.{untouched, refused-done}
+use Rattle.hall.specs.Calls.{on-tables}
 
 -- the bytes of a number's low half and of its high half are its four bytes
 pub half-bytes : (x : ℕ) →
@@ -123,8 +123,7 @@ module _ (n : ℕ) (t : Tables) (buffer : List ℕ) where
 
   -- refused, nothing differs
   pub write-refused : (r : Refusal) → refusal call t ≡ r → accepted r ≡ false → Done call t t (writes r 0 buffer)
-  unfolding after answer
-  write-refused r e f = record { left = rw (e, f); answered = rw e (sym (write-reply n r (t .cost) buffer ∙ rw f)) }
+  write-refused r e f = refused-done call t r e f
 
   module _ (some : upTo mostStops n ≡ true) (fits : sized n t ≡ true) where
     -- the tests behind the lengths

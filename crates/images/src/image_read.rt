@@ -12,8 +12,8 @@ ghost use mathlib.Core.Bool.{true};
 ghost use Prim.Native.Nat.{_*_, _<_, _≤_};
 ghost use lib.ListN.{length, replicate};
 ghost use Rattle.book.specs.Hall.{isImage, costsOf};
-ghost use Rattle.book.specs.Call.{imageRead};
-ghost use Rattle.hall.specs.Promise.{tables, says, Done, Square};
+ghost use Rattle.book.specs.Call.{imageRead, Done};
+ghost use Rattle.hall.specs.Promise.{tables, says, Square};
 ghost use Rattle.images.specs.ImagePromise.{Loaded};
 
 // Sets the costs of an image's links in a table without links.

@@ -10,9 +10,9 @@ ghost use Prim.Native.Nat.{_+_, _*_, _<_, _≤_};
 ghost use lib.ListN.{length};
 ghost use lib.Seq.{sets};
 ghost use Rattle.book.specs.Hall.{entry, validCosts};
-ghost use Rattle.book.specs.Call.{imageWrite};
+ghost use Rattle.book.specs.Call.{imageWrite, Done};
 ghost use Rattle.book.specs.WriterLaws.{linksTo, trailer};
-ghost use Rattle.hall.specs.Promise.{tables, Done};
+ghost use Rattle.hall.specs.Promise.{tables};
 ghost use Rattle.images.specs.ImagePromise.{linkBit, linkBytes, links, writes, stored, Room, Wrote};
 
 // A refusal, or the length of the image.

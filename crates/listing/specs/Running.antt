@@ -5,20 +5,19 @@ use mathlib.Core.Bool.{Bool, true, false, cond, _&&_, and-eq-true-iff}
 use mathlib.Core.List.{List, []}
 use native.Mathlib.Omega.{arith}
 use lib.Dec.{eqb, leb, lit<}
-use lib.ListN.{length, getD, take, drop, replicate, drop-of-length-le, length-append}
+use lib.ListN.{length, getD, take, drop, drop-of-length-le, length-append}
 use borrow.Author.Tests.{eq-eqb, eqb-true, leb-true}
 use Rattle.routes.specs.Route.{sumTo, joinTo, listTo, score}
 use Rattle.routes.specs.Sums.{sumTo-bound}
 use Rattle.routes.specs.Rows.{length-listTo, getD-listTo}
 use Rattle.book.specs.Hall.{Tables, mostStops, mostWays, scale, upTo, entry, filled, sized, right}
-use Rattle.book.specs.Call.{Call, emptyHall, edit, number, Answer, reply, rule, accepted, refusal, after, answer}
-use Rattle.book.specs.Book.{Book, bookRefusal, bookAfter, bookAnswer}
+use Rattle.book.specs.Call.{Call, emptyHall, edit, number, Answer, reply, rule, accepted, refusal, after, answer, Done}
+use Rattle.book.specs.Book.{Book, noLinks, bookRefusal, bookAfter, bookAnswer}
 use Rattle.book.specs.Filled.{sized-filled, right-filled}
 use Rattle.book.specs.Steps.{Held, held-none, tablesOf, after-book, answer-book, held-after}
 use Rattle.book.specs.declared.Kind.{Kind}
 use Rattle.book.specs.declared.Refusal.{Refusal}
 use Rattle.book.specs.declared.Refusal.the-variants.{Accepted, BadSize, BadLength, BadTables, BadStop, BadCost, LinkPresent, LinkAbsent, NotCheaper, BadImage, ShortBuffer, TooManyWays}
-use Rattle.hall.specs.Promise.{Done}
 use Rattle.listing.specs.declared.Line.{Line}
 use Rattle.listing.specs.declared.Line.the-variants.{Edit, Unread}
 use Rattle.listing.specs.Text.{bytes, parts, lines, words, lineOf, hallLine, editLine, stopLine, said, next, report}
@@ -37,10 +36,6 @@ pub record Standing (n : ℕ) (t : Tables) : Type 0 where
 pub record Stepped (n i : ℕ) (l : Line) (t t′ : Tables) (at : ℕ) (out : List ℕ) (end : ℕ) (out′ : List ℕ) : Type 0 where
   pub left : t′ ≡ tablesOf (next (bookOf n t) l)
   pub printed : Printed (said i (bookOf n t) l) at out end out′
-
--- the book at first
-abbrev pub noLinks : ℕ → Book
-noLinks n = record { stops = n; links = replicate (n * n) 0 }
 
 -- the tables of a book stand for it
 standing-of : (b : Book) (t : Tables) → Held (b .stops) (b .links) → t ≡ tablesOf b → Standing (b .stops) t

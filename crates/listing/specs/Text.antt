@@ -5,11 +5,11 @@ use Prim.Native.String.{String, [] as end, _∷_ as _then_}
 use mathlib.Core.Bool.{Bool, true, cond, _&&_}
 use mathlib.Core.List.{List, [], _∷_, _++_}
 use lib.Dec.{eqb, ltb, leb}
-use lib.ListN.{length, replicate}
+use lib.ListN.{length}
 use Rattle.routes.specs.Route.{joinTo, same, score}
 use Rattle.book.specs.Hall.{mostStops, scale, upTo, entry}
 use Rattle.book.specs.Call.{edit, number, Answer}
-use Rattle.book.specs.Book.{Book, bookAfter, bookAnswer}
+use Rattle.book.specs.Book.{Book, noLinks, bookAfter, bookAnswer}
 use Rattle.book.specs.declared.Kind.the-variants.{Insert, Cheapen, Delete}
 use Rattle.listing.specs.declared.Line.{Line}
 use Rattle.listing.specs.declared.Line.the-variants.{Edit, Unread}
@@ -109,8 +109,7 @@ unfoldable pub ofLines : List (List ℕ) → List ℕ
 ofLines [] = bytes "no hall\n"
 ofLines (line ∷ rest) =
     let n : ℕ = hallOf (words line) in
-    let b : Book = record { stops = n; links = replicate (n * n) 0 } in
-    cond (upTo mostStops n) (hallLine n ++ report 2 b rest) (bytes "no hall\n")
+    cond (upTo mostStops n) (hallLine n ++ report 2 (noLinks n) rest) (bytes "no hall\n")
 
 unfoldable pub listing : List ℕ → List ℕ
 listing input = cond (ltb 32768 (length input)) (bytes "too long\n") (ofLines (lines input))

@@ -10,11 +10,11 @@ use lib.ListN.{length, take, drop, length-append}
 use lib.Seq.{take-nil, sets-eq}
 use borrow.Author.Tests.{le-ltb, lt-ltb}
 use Rattle.book.specs.Hall.{mostStops, upTo}
+use Rattle.book.specs.Book.{noLinks}
 use Rattle.listing.specs.declared.Listed.{Listed}
 use Rattle.listing.specs.Text.{bytes, parts, lines, words, hallOf, hallLine, report, ofLines, listing}
 use Rattle.listing.specs.Reading.{cutAt, line-first}
 use Rattle.listing.specs.Printing.{Printed}
-use Rattle.listing.specs.Running.{noLinks}
 
 -- the listing from the front of the output, the bytes past it as they were; an output that is too short for some listing stays as it is
 unfoldable pub wrote : List ℕ → List ℕ → Listed × List ℕ

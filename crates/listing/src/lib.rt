@@ -12,9 +12,9 @@ ghost use Prim.Native.Nat.{_+_, _≤_};
 ghost use lib.ListN.{length, drop};
 ghost use mathlib.Core.List.{_++_};
 ghost use Rattle.book.specs.Hall.{mostStops, upTo};
+ghost use Rattle.book.specs.Book.{noLinks};
 ghost use Rattle.listing.specs.Text.{lines, hallLine, report};
 ghost use Rattle.listing.specs.Printing.{Printed};
-ghost use Rattle.listing.specs.Running.{noLinks};
 ghost use Rattle.listing.specs.Whole.{wrote};
 
 // A line after the first: an edit, a delete's cost being 0, or one that is no edit.

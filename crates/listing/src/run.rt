@@ -11,10 +11,11 @@ ghost use mathlib.Core.Bool.{true};
 ghost use lib.ListN.{length, getD, drop};
 ghost use Rattle.routes.specs.Route.{joinTo};
 ghost use Rattle.book.specs.Hall.{mostStops, upTo, sized};
+ghost use Rattle.book.specs.Book.{noLinks};
 ghost use Rattle.hall.specs.Promise.{tables};
 ghost use Rattle.listing.specs.Text.{lines, words, lineOf, stopLine, report};
 ghost use Rattle.listing.specs.Printing.{Printed};
-ghost use Rattle.listing.specs.Running.{Standing, Stepped, bookOf, noLinks};
+ghost use Rattle.listing.specs.Running.{Standing, Stepped, bookOf};
 
 // An edit, line i of the text.
 fn edit(
