@@ -74,6 +74,16 @@ module _ (n u v new : ℕ) (cost times counts shares : List ℕ) (h : Change n u
   pub valid′ : validCosts n cost′ ≡ true
   valid′ = valid-set n cost u v new (h .square) (h .from) (h .to) (h .apart) (h .fits) (h .valid)
 
+  -- the same after another cost is written there, as the old one is when it is put back
+  pub square″ : (x : ℕ) → length (set cost′ (u * n + v) x) ≡ n * n
+  square″ x = length-set cost′ (u * n + v) x ∙ square′
+
+  pub valid″ : (x : ℕ) → x ≤ largestCost → validCosts n (set cost′ (u * n + v) x) ≡ true
+  valid″ x l = valid-set n cost′ u v x square′ (h .from) (h .to) (h .apart) l valid′
+
+  pub old-fits : old ≤ largestCost
+  old-fits = valid-costs n cost (h .valid) .most u v (h .from) (h .to)
+
   small : n * largestCost < mark
   small = omega (arith, mul-le-mul-right largestCost (h .most))
 
@@ -204,17 +214,20 @@ module _ (n u v new : ℕ) (cost times counts shares : List ℕ) (h : Change n u
           go s l true e = same-rowOf (masked n cost′ (r .out)) W′ n s (same s l)
           go s l false e = rows s l ∙ same-rowOf W W′ n s (stays s l e)
 
-      -- put back: over all links of the old costs
-      module _ (times″ counts″ shares″ : List ℕ) (crowded″ : Bool) (back : Reworked n u v true sources cost times′ counts′ shares′ times″ counts″ shares″ crowded″) where
-        all : AllLinks n cost (back .out)
-        all = all-chosen n u v cost times′ (back .out) (back .chosen)
+      -- put back: the old costs, and the rows over all their links
+      module _ (cost″ times″ counts″ shares″ : List ℕ) (crowded″ : Bool) (back : Reworked n u v true sources cost″ times′ counts′ shares′ times″ counts″ shares″ crowded″) (costs : cost″ ≡ cost) where
+        again : Reworked n u v true sources cost times′ counts′ shares′ times″ counts″ shares″ crowded″
+        again = rw costs at back
+
+        all : AllLinks n cost (again .out)
+        all = all-chosen n u v cost times′ (again .out) (again .chosen)
 
         same-parts : (s : ℕ) → s < n → parts n times″ counts″ shares″ s ≡ parts n times counts shares s
-        same-parts s l = back .redone .rows s ∙ go (has sources s) (r .redone .rows s)
+        same-parts s l = again .redone .rows s ∙ go (has sources s) (r .redone .rows s)
           where
             go : (b : Bool) → parts n times′ counts′ shares′ s ≡ cond b (rowOf (masked n cost′ (r .out)) n s) (parts n times counts shares s) →
-                cond b (rowOf (masked n cost (back .out)) n s) (parts n times′ counts′ shares′ s) ≡ parts n times counts shares s
-            go true e = same-rowOf (masked n cost (back .out)) W n s (all-rows n cost (h .most) (h .square) (h .valid) (back .out) all s l) ∙ sym (rows s l)
+                cond b (rowOf (masked n cost (again .out)) n s) (parts n times′ counts′ shares′ s) ≡ parts n times counts shares s
+            go true e = same-rowOf (masked n cost (again .out)) W n s (all-rows n cost (h .most) (h .square) (h .valid) (again .out) all s l) ∙ sym (rows s l)
             go false e = e
 
         pub tried-back : crowded ≡ true → Square n times″ counts″ shares″ → Attempted n cost′ times counts shares times″ counts″ shares″ false

@@ -5,9 +5,11 @@ use mathlib.Core.List.{List, _++_}
 use native.Mathlib.Nat.{mul-le-mul-right}
 use native.Mathlib.Numerals.{add-one}
 use native.Mathlib.Omega.{arith}
-use lib.ListN.{length, getD, drop}
+use lib.ListN.{length, getD, take, drop, length-append, take-append-drop}
+use lib.Seq.{length-take-le, getD-take}
 use Rattle.routes.specs.Route.{sumTo, listTo}
 use Rattle.routes.specs.Sums.{sumTo-bound}
+use Rattle.routes.specs.Rows.{length-listTo, listTo-of}
 use Rattle.book.specs.Hall.{entry}
 use Rattle.hall.specs.Promise.{Shares, summed}
 use Rattle.hall.specs.Stored.{front-at, front-rest, front-whole}
@@ -17,10 +19,13 @@ module _ (n : ℕ) (share : List ℕ) where
   abbrev sums : ℕ → ℕ → ℕ
   sums k v = sumTo k (λ s. entry n share s v)
 
-  -- no source yet: the sums were set to 0
-  pub summed-none : (old : List ℕ) {sum : List ℕ} → sum ≡ listTo n (λ v. 0) ++ drop n old → sum ≡ summed n 0 share sum
+  -- no source yet: the first sums were set to 0, as many as there are stops or more
+  pub summed-none : (m : ℕ) (old : List ℕ) {sum : List ℕ} → n ≤ m → sum ≡ listTo m (λ v. 0) ++ drop m old → sum ≡ summed n 0 share sum
   unfolding sumTo
-  summed-none old {sum} e = e ∙ ap (λ l. listTo n (λ v. 0) ++ l) (sym (front-rest (λ v. 0) n old e))
+  summed-none m old {sum} h e = sym (take-append-drop n sum) ∙ ap (λ l. l ++ drop n sum) (listTo-of n (λ v. 0) 0 (take n sum) wide (λ v l. getD-take n sum v 0 l ∙ ap (λ l. getD l v 0) e ∙ front-at (λ v. 0) m v (drop m old) (omega arith)))
+    where
+      wide : length (take n sum) ≡ n
+      wide = length-take-le n sum (omega (arith, ap length e, length-append (listTo {A = ℕ} m (λ v. 0)) (drop m old), length-listTo {A = ℕ} m (λ v. 0)))
 
   -- the sum of a stop
   pub summed-at : (k : ℕ) (old : List ℕ) {sum : List ℕ} → sum ≡ summed n k share old → (v : ℕ) → v < n → getD sum v 0 ≡ sumTo k (λ s. entry n share s v)

@@ -9,8 +9,10 @@ pub fn copy32(k: usize, from: &[u32], to: &mut [u32])
     requires { ⌜ (k ≤ length (now from)) × (k ≤ length (now to)) ⌝ }
     ensures { λ r. ⌜ now (to .exit) ≡ take k (now (from .entry)) ++ drop k (now (to .entry)) ⌝ }
 {
-    for i in 0..k {
+    let mut i = 0;
+    while i < k {
         to[i] = from[i];
+        i += 1;
     }
 }
 
@@ -18,7 +20,9 @@ pub fn copy64(k: usize, from: &[u64], to: &mut [u64])
     requires { ⌜ (k ≤ length (now from)) × (k ≤ length (now to)) ⌝ }
     ensures { λ r. ⌜ now (to .exit) ≡ take k (now (from .entry)) ++ drop k (now (to .entry)) ⌝ }
 {
-    for i in 0..k {
-        to[i] = from[i];
+    let mut j = 0;
+    while j < k {
+        to[j] = from[j];
+        j += 1;
     }
 }

@@ -22,7 +22,7 @@ use Rattle.row.specs.Sets.{viaOf}
 use Rattle.row.specs.Making.{Making, making-starts, making-goes}
 use Rattle.row.specs.Relaxing.{flat-lt}
 use Rattle.row.specs.Checked.{pushOf, push-one}
-use Rattle.row.specs.Scanning.{at, little, single, paid, Pushing, Scan, Scans, ifTight, Balance, Relaxed, Balanced, Pays}
+use Rattle.row.specs.Scanning.{at, little, single, paid, Pushing, Picked, Scan, Scans, ifTight, Balance, Relaxed, Balanced, Pays}
 
 -- where one or the other fails, both do
 neither : (a b : Bool) → (a || b) ≡ false → (a ≡ false) × (b ≡ false)
@@ -139,9 +139,9 @@ module _ (n s u links : ℕ) (cost time ways psi old : List ℕ) (before : Bool)
     total : sumTo n (λ t. cond (has links t) (ifTight n u cost time t (at psi t)) 0) ≤ n * 2 ^ 41
     total = sumTo-bound n (2 ^ 41) (λ t l. under (has links t) (under (eqb (viaOf n u cost time t) (at time t)) (asked .light t l)))
 
-    -- the member taken stands in every table, and the sums fit
+    -- the member taken stands in every table, and its sum is small
     pub walking-inside : {left t rest flow : ℕ} {sum : List ℕ} {bad : Bool} → Walking left sum flow bad → Popped left t rest
-        → (t < n) × (u * n + t < length cost) × (length cost ≤ 4096) × (at sum t ≤ 1472) × (flow + ifTight n u cost time t (at psi t) ≤ 2 ^ 47)
+        → (t < n) × (u * n + t < length cost) × (length cost ≤ 4096) × (at sum t ≤ 1472)
     walking-inside {left} {t} {rest} {flow} {sum} w p =
         let h = w .added .inside t (p .member) in
         let l = asked .below t h in
@@ -150,8 +150,19 @@ module _ (n s u links : ℕ) (cost time ways psi old : List ℕ) (before : Bool)
           omega (arith, asked .square),
           omega (arith, asked .square),
           omega (arith, w .added .todo t (p .member), asked .small t l),
-          omega (arith, w .flows, sum-popped n (λ t. ifTight n u cost time t (at psi t)) p l, total, asked .most),
         )
+
+    -- whether the link is tight or not, the stop i that the flow is taken from stands in its table, and what is added fits
+    module _ {left t rest flow : ℕ} {sum : List ℕ} {bad : Bool} (w : Walking left sum flow bad) (p : Popped left t rest) where
+      pub walking-flow : {b : Bool} {i : ℕ} → Picked b t s i → (i < 64) × (flow + at psi i ≤ 2 ^ 48)
+      walking-flow {b} e = rw (e .is) (go b (walking-inside w p .0))
+        where
+          go : (b : Bool) → t < n → (cond b t s < 64) × (flow + at psi (cond b t s) ≤ 2 ^ 48)
+          go true l = (omega (arith, asked .most), omega (arith, w .flows, total, asked .most, asked .light t l))
+          go false l = (omega (arith, asked .most, asked .source), omega (arith, w .flows, total, asked .most, asked .quiet))
+
+      pub walking-adds : {b : Bool} {x : ℕ} → Picked b (at ways u) 0 x → at sum t + x < 2 ^ 32
+      walking-adds {b} e = let (_, _, _, k) = walking-inside w p in omega (arith, e .is, under b (asked .few))
 
     -- a turn reads the cost c and the time far, picks the stop i to take the flow from, and adds x
     module _
@@ -160,36 +171,25 @@ module _ (n s u links : ℕ) (cost time ways psi old : List ℕ) (before : Bool)
         (eu : near ≡ at time u)
         (ec : c ≡ at cost (u * n + t))
         (et : far ≡ at time t)
-        (ei : i ≡ cond (eqb (near + c) far) t s)
+        (ei : Picked (eqb (near + c) far) t s i)
       where
         -- off the tight links the flow is the source's, which is none
-        pub walking-flow : {flow : ℕ} {sum : List ℕ} {bad : Bool} → Walking left sum flow bad → (i < 64) × (flow + at psi i ≤ 2 ^ 47) × (at psi i ≡ ifTight n u cost time t (at psi t))
-        walking-flow w =
-            let (l, _, _, _, b) = walking-inside w p in
-            let e : at psi i ≡ ifTight n u cost time t (at psi t) = rw (ei, eu, ec, et) (pick (eqb (viaOf n u cost time t) (at time t))) in
-            (rw ei (below (eqb (near + c) far) l), omega arith, e)
+        taken : at psi i ≡ ifTight n u cost time t (at psi t)
+        taken = rw (ei .is, eu, ec, et) (pick (eqb (viaOf n u cost time t) (at time t)))
           where
             pick : (b : Bool) → at psi (cond b t s) ≡ cond b (at psi t) 0
             pick true = refl
             pick false = asked .quiet
 
-            below : (b : Bool) → t < n → cond b t s < 64
-            below true l = omega (arith, asked .most)
-            below false l = omega (arith, asked .most, asked .source)
-
-        pub walking-adds : {flow x : ℕ} {sum : List ℕ} {bad : Bool} → Walking left sum flow bad → x ≡ cond (eqb (near + c) far) (at ways u) 0 → at sum t + x < 2 ^ 32
-        walking-adds w e = let (_, _, _, k, _) = walking-inside w p in omega (arith, under (eqb (near + c) far) (asked .few))
-
-        pub walking-goes : {flow x : ℕ} {sum : List ℕ} {bad : Bool} → Walking left sum flow bad → x ≡ cond (eqb (near + c) far) (at ways u) 0
+        pub walking-goes : {flow x : ℕ} {sum : List ℕ} {bad : Bool} → Walking left sum flow bad → Picked (eqb (near + c) far) (at ways u) 0 x
             → Walking rest (set sum t (at sum t + x)) (flow + at psi i) (bad || ltb (near + c) far)
-        walking-goes {flow} {x} {sum} {bad} w ex′ =
-            let (l, _, _, _, _) = walking-inside w p in
-            let (_, _, ex) = walking-flow w in
+        walking-goes {flow} {x} {sum} {bad} w ex =
+            let (l, _, _, _) = walking-inside w p in
             record {
               sums = length-set sum t (at sum t + x) ∙ w .sums;
-              flows = omega (arith, ex, w .flows, sum-popped n (λ t. ifTight n u cost time t (at psi t)) p l);
+              flows = omega (arith, taken, w .flows, sum-popped n (λ t. ifTight n u cost time t (at psi t)) p l);
               added = rewriting-goes links _ _ (w .added) p
-                  (getD-set-same sum t (at sum t + x) 0 (omega (arith, w .sums, asked .most)) ∙ rw (ex′, eu, ec, et, w .added .todo t (p .member)))
+                  (getD-set-same sum t (at sum t + x) 0 (omega (arith, w .sums, asked .most)) ∙ rw (ex .is, eu, ec, et, w .added .todo t (p .member)))
                   (λ v h. getD-set-other sum t v (at sum t + x) 0 h);
               relaxed = λ e. let (b, r) = neither bad _ e in let (z, k) = w .relaxed b in (
                 z,

@@ -76,6 +76,10 @@ pub record Scan (n s u links : ℕ) (cost time ways psi sum : List ℕ) : Type 0
   pub quiet : at psi s ≡ 0
   pub small : (t : ℕ) → t < n → at sum t ≤ 1472
 
+-- the first of two numbers where a test holds, else the second
+pub record Picked (yes : Bool) (a b r : ℕ) : Type 0 where
+  pub is : r ≡ cond yes a b
+
 -- what the link from u to t gives where it is tight
 abbrev pub ifTight : ℕ → ℕ → List ℕ → List ℕ → ℕ → ℕ → ℕ
 ifTight n u cost time t x = cond (eqb (viaOf n u cost time t) (at time t)) x 0

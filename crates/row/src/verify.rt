@@ -1,14 +1,13 @@
 // Says whether lent parts are the row of one source: by local equations, with no order and no work done again.
 use super::sets;
 ghost use mathlib.Core.Path.{_≡_};
-ghost use mathlib.Core.Bool.{cond};
 ghost use Prim.Native.Nat.{_+_, _^_, _<_, _≤_, min};
 ghost use lib.ListN.{length};
 ghost use Rattle.routes.specs.Route.{allTo};
 ghost use Rattle.row.specs.Promise.{Task, masked, isRow};
 ghost use Rattle.row.specs.Checked.{pushOf};
 ghost use Rattle.row.specs.Making.{Making};
-ghost use Rattle.row.specs.Scanning.{at, plain, little, single, paid, agreed, Wholes, Pushes, Pushing, Scan, Scans, Balance, Balanced, Pays};
+ghost use Rattle.row.specs.Scanning.{at, plain, little, single, paid, agreed, Wholes, Pushes, Pushing, Picked, Scan, Scans, Balance, Balanced, Pays};
 
 // The three parts are the row of source s over the links of the masks.
 pub fn check(
@@ -200,13 +199,13 @@ fn scan(
 }
 
 fn chosen(yes: bool, a: usize, b: usize) -> usize
-    ensures { λ r. ⌜ r ≡ cond yes a b ⌝ }
+    ensures { λ r. ⌜ Picked yes a b r ⌝ }
 {
     if yes { a } else { b }
 }
 
 fn given(yes: bool, x: u32) -> u32
-    ensures { λ r. ⌜ r ≡ cond yes x 0 ⌝ }
+    ensures { λ r. ⌜ Picked yes x 0 r ⌝ }
 {
     if yes { x } else { 0 }
 }

@@ -7,7 +7,7 @@ use lib.ListN.{length-set}
 use borrow.Author.Tests.{not-true, not-false}
 use borrow.Author.Needs.{needs}
 use Rattle.edits.specs.EditMasks.{put-back}
-use Rattle.edits.specs.EditLaws.{square′, valid′, lengths, comes, below, tried, tried-back}
+use Rattle.edits.specs.EditLaws.{square′, valid′, square″, valid″, old-fits, lengths, comes, below, tried, tried-back}
 use Rattle.edits.proofs.audited.try_cost.Statement.{statement}
 use Rattle.edits.proofs.audited.try_cost.Tie as tie
 
@@ -76,8 +76,9 @@ rework-requires-2 c κs =
     let h = c .before .before .before .before .before .before .before .before .before .before .before .before .before .before .before .before .before .before .before .before .before .before .before .pre .0 in
     let l = lengths (a .n) (a .u) (a .v) (a .new) (a .cost .now) (a .time .now) (a .ways .now) (a .share .now) h in
     let k = c .before .before .before .before .before .before .before .before .before .before .before .rework .kept in
-    rw (put-back (a .cost .now) (c .before .before .before .before .before .before .before .before .before .before .before .before .before .before .before .before .before .before .start .result + a .v) (a .new)) (
-      (h .most, h .square, h .valid, h .from, h .to),
+    let small = old-fits (a .n) (a .u) (a .v) (a .new) (a .cost .now) (a .time .now) (a .ways .now) (a .share .now) h in
+    rw (c .before .before .before .before .before .before .before .before .before .before .before .before .before .before .before .before .before .before .start .ensures .place) (
+      (h .most, square″ (a .n) (a .u) (a .v) (a .new) (a .cost .now) (a .time .now) (a .ways .now) (a .share .now) h _, valid″ (a .n) (a .u) (a .v) (a .new) (a .cost .now) (a .time .now) (a .ways .now) (a .share .now) h _ (omega arith), h .from, h .to),
       (
         record { times = k .1 .1 .1 .1 .1 .1 .0 ∙ l .times; counts = k .1 .1 .1 .1 .1 .1 .1 .0 ∙ l .counts; shares = k .1 .1 .1 .1 .1 .1 .1 .1 .0 ∙ l .shares },
         (λ e. absurd (true≢false e), below (a .n) (a .u) (a .v) (a .new) (a .cost .now) (a .time .now) (a .ways .now) (a .share .now) h _ (c .before .before .before .before .before .before .before .before .before .before .before .before .before .before .before .before .before .before .before .before .before .before .before .pre .1)),
@@ -103,15 +104,16 @@ returns-2 c =
     let l = lengths (a .n) (a .u) (a .v) (a .new) (a .cost .now) (a .time .now) (a .ways .now) (a .share .now) h in
     let k = c .before .before .before .before .before .before .before .before .before .before .before .before .before .before .before .before .before .before .rework .kept in
     let k′ = c .before .before .before .before .before .before .rework2 .kept in
-    let r = rw (c .before .before .before .before .before .before .before .before .before .before .before .before .before .before .before .before .before .before .before .before .before .before .before .dearer .ensures, c .before .before .before .before .before .before .before .before .before .before .before .before .before .before .before .before .before .before .before .before .before .before .before .before .before .start .ensures .place) at (c .before .before .before .before .before .before .before .before .before .before .before .before .before .before .before .before .before .before .rework .ensures) in
-    let back = rw (put-back (a .cost .now) (c .before .before .before .before .before .before .before .before .before .before .before .before .before .before .before .before .before .before .before .before .before .before .before .before .before .start .result + a .v) (a .new)) at (c .before .before .before .before .before .before .rework2 .ensures) in (
-      tried-back (a .n) (a .u) (a .v) (a .new) (a .cost .now) (a .time .now) (a .ways .now) (a .share .now) h _ (c .before .before .before .before .before .before .before .before .before .before .before .before .before .before .before .before .before .before .before .before .before .before .before .before .before .before .before .before .before .before .pre .1) _ _ _ _ r _ _ _ _ back (not-false _ (c .before .before .before .before .before .before .before .before .before .before .before .if1 .left))
+    let place = c .before .before .before .before .before .before .before .before .before .before .before .before .before .before .before .before .before .before .before .before .before .before .before .before .before .start in
+    let costs = put-back (a .cost .now) (place .result + a .v) (a .new) in
+    let r = rw (c .before .before .before .before .before .before .before .before .before .before .before .before .before .before .before .before .before .before .before .before .before .before .before .dearer .ensures, place .ensures .place) at (c .before .before .before .before .before .before .before .before .before .before .before .before .before .before .before .before .before .before .rework .ensures) in (
+      tried-back (a .n) (a .u) (a .v) (a .new) (a .cost .now) (a .time .now) (a .ways .now) (a .share .now) h _ (c .before .before .before .before .before .before .before .before .before .before .before .before .before .before .before .before .before .before .before .before .before .before .before .before .before .before .before .before .before .before .pre .1) _ _ _ _ r _ _ _ _ _ (c .before .before .before .before .before .before .rework2 .ensures) costs (not-false _ (c .before .before .before .before .before .before .before .before .before .before .before .if1 .left))
           (record {
             times = k′ .1 .1 .1 .1 .1 .1 .0 ∙ k .1 .1 .1 .1 .1 .1 .0 ∙ l .times;
             counts = k′ .1 .1 .1 .1 .1 .1 .1 .0 ∙ k .1 .1 .1 .1 .1 .1 .1 .0 ∙ l .counts;
             shares = k′ .1 .1 .1 .1 .1 .1 .1 .1 .0 ∙ k .1 .1 .1 .1 .1 .1 .1 .1 .0 ∙ l .shares;
           }),
-      put-back (a .cost .now) (c .before .before .before .before .before .before .before .before .before .before .before .before .before .before .before .before .before .before .before .before .before .before .before .before .before .start .result + a .v) (a .new),
+      costs,
     )
 
 pub try-cost-spec : {M : Type 1} → statement M

@@ -16,12 +16,12 @@ abbrev μ-loop : tie.MeasureT-loop
 μ-loop n share sum₀ s₀ sum s = n - s
 
 clear-requires : tie.Need-clear-requires Inv-loop μ-loop
-clear-requires c κs = c .before .before .before .pre .1
+clear-requires c κs = search needs
 
 loop-holds : tie.Need-loop-holds Inv-loop μ-loop
 loop-holds c =
-    let a = c .before .before .before .before .before .before .args in
-    (omega arith, refl, summed-none (a .n) (a .share .now) (a .sum .now) (c .before .before .clear .ensures))
+    let start : tie.Start Inv-loop μ-loop = search in
+    (omega arith, refl, summed-none (start .args .n) (start .args .share .now) _ (start .args .sum .now) (omega (arith, start .pre .1)) (c .before .before .clear .ensures))
 
 add-requires : tie.Need-add-requires Inv-loop μ-loop
 add-requires c κs =

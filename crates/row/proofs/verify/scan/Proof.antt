@@ -1,3 +1,4 @@
+-- `verify::scan` goes over the links from one stop: what was passed is done, the others are still to come.
 use Prim.Native.Nat.{_+_, _*_}
 use native.Mathlib.Omega.{arith}
 use Rattle.row.specs.Relaxing.{flat-lt}
@@ -63,13 +64,13 @@ chosen-requires : tie.Need-chosen-requires Inv-loop μ-loop
 chosen-requires c κs = tt
 
 mul-flow : tie.Need-mul-flow Inv-loop μ-loop
-mul-flow c = let f = walking-flow _ _ _ _ _ _ _ _ _ _ ((c .before .before .before .before .before .before .before .before .before .before .before .before .before .before) .pre) ((c .before .before .before .before .before) .lowest .ensures) ((c .before .before .before .before .before .before .before .before .before) .wide .ensures) ((c .before .before .before) .wide2 .ensures) ((c .before) .wide3 .ensures) (c .chosen .ensures) ((c .before .before .before .before .before .before .before) .loop .inv) in omega arith
+mul-flow c = let f = walking-flow _ _ _ _ _ _ _ _ _ _ (c .before .before .before .before .before .before .before .before .before .before .before .before .before .before .pre) (c .before .before .before .before .before .before .before .loop .inv) (c .before .before .before .before .before .lowest .ensures) (c .chosen .ensures) in omega arith
 
 element-copy-out-flow : tie.Need-element-copy-out-flow Inv-loop μ-loop
-element-copy-out-flow c = walking-flow _ _ _ _ _ _ _ _ _ _ ((c .before .before .before .before .before .before .before .before .before .before .before .before .before .before) .pre) ((c .before .before .before .before .before) .lowest .ensures) ((c .before .before .before .before .before .before .before .before .before) .wide .ensures) ((c .before .before .before) .wide2 .ensures) ((c .before) .wide3 .ensures) (c .chosen .ensures) ((c .before .before .before .before .before .before .before) .loop .inv) .0
+element-copy-out-flow c = walking-flow _ _ _ _ _ _ _ _ _ _ (c .before .before .before .before .before .before .before .before .before .before .before .before .before .before .pre) (c .before .before .before .before .before .before .before .loop .inv) (c .before .before .before .before .before .lowest .ensures) (c .chosen .ensures) .0
 
 add-flow : tie.Need-add-flow Inv-loop μ-loop
-add-flow c = let f = walking-flow _ _ _ _ _ _ _ _ _ _ ((c .before .before .before .before .before .before .before .before .before .before .before .before .before .before .before) .pre) ((c .before .before .before .before .before .before) .lowest .ensures) ((c .before .before .before .before .before .before .before .before .before .before) .wide .ensures) ((c .before .before .before .before) .wide2 .ensures) ((c .before .before) .wide3 .ensures) ((c .before) .chosen .ensures) ((c .before .before .before .before .before .before .before .before) .loop .inv) in omega arith
+add-flow c = let f = walking-flow _ _ _ _ _ _ _ _ _ _ (c .before .before .before .before .before .before .before .before .before .before .before .before .before .before .before .pre) (c .before .before .before .before .before .before .before .before .loop .inv) (c .before .before .before .before .before .before .lowest .ensures) (c .before .chosen .ensures) in omega arith
 
 given-requires : tie.Need-given-requires Inv-loop μ-loop
 given-requires c κs = tt
@@ -81,7 +82,7 @@ element-copy-out-sum : tie.Need-element-copy-out-sum Inv-loop μ-loop
 element-copy-out-sum c = let i = walking-inside _ _ _ _ _ _ _ _ _ _ ((c .before .before .before .before .before .before .before .before .before .before .before .before .before .before .before .before) .pre) ((c .before .before .before .before .before .before .before .before .before) .loop .inv) ((c .before .before .before .before .before .before .before) .lowest .ensures) in omega (arith, (c .before .before .before .before .before .before .before .before .before .before .before .before .before .before .before .before) .pre .most)
 
 add-sum : tie.Need-add-sum Inv-loop μ-loop
-add-sum c = record { fits = walking-adds _ _ _ _ _ _ _ _ _ _ ((c .before .before .before .before .before .before .before .before .before .before .before .before .before .before .before .before .before) .pre) ((c .before .before .before .before .before .before .before .before) .lowest .ensures) ((c .before .before .before .before .before .before .before .before .before .before .before .before) .wide .ensures) ((c .before .before .before .before .before .before) .wide2 .ensures) ((c .before .before .before .before) .wide3 .ensures) ((c .before .before .before) .chosen .ensures) ((c .before .before .before .before .before .before .before .before .before .before) .loop .inv) ((c .before) .given .ensures) }
+add-sum c = record { fits = walking-adds _ _ _ _ _ _ _ _ _ _ (c .before .before .before .before .before .before .before .before .before .before .before .before .before .before .before .before .before .pre) (c .before .before .before .before .before .before .before .before .before .before .loop .inv) (c .before .before .before .before .before .before .before .before .lowest .ensures) (c .before .given .ensures) }
 
 element-write-sum : tie.Need-element-write-sum Inv-loop μ-loop
 element-write-sum c = let i = walking-inside _ _ _ _ _ _ _ _ _ _ ((c .before .before .before .before .before .before .before .before .before .before .before .before .before .before .before .before .before) .pre) ((c .before .before .before .before .before .before .before .before .before .before) .loop .inv) ((c .before .before .before .before .before .before .before .before) .lowest .ensures) in omega (arith, (c .before .before .before .before .before .before .before .before .before .before .before .before .before .before .before .before .before) .pre .most)
