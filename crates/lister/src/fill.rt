@@ -58,10 +58,10 @@ fn share_of(tally: &[u64; ROOM], n: usize, s: usize, v: usize) -> u64
     requires { ⌜ n ≤ 64 ⌝ }
     requires { ⌜ v < n ⌝ }
 {
-    let mut sum = 0;
     if v == s {
-        return sum;
+        return 0;
     }
+    let mut sum = 0;
     for t in 0..n {
         sum = wrapping_add_u64(sum, portion(tally, s, t, v));
     }

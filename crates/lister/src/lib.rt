@@ -2,6 +2,9 @@
 // keeps count of the quickest to each other, and gives what they make: times, ways, shares, scores,
 // and the sources that an edited link touches. A larger n counts as 64. How long it takes goes by the
 // number of routes, and not of stops.
+//
+// What a hall's own entries hold, and which bits of stops a set has, the contracts leave free: to fix
+// it they would need the definitions of what the lister is held against.
 mod fill;
 mod route;
 mod tally;

@@ -20,9 +20,9 @@ const USING: usize = 2;
 const THROUGH: usize = 3;
 
 // The time where there is no route.
-pub const MARK: u64 = 4294967295;
+const MARK: u64 = 4294967295;
 
-// A count is cut off here.
+// A count is cut off here, so that the scale times a count fits 64 bits.
 const MOST: u64 = 4294967295;
 
 fn place(t: usize, i: usize) -> usize
