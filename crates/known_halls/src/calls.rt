@@ -30,7 +30,7 @@ pub struct Answer {
 pub struct Link {
     pub u: u64,
     pub v: u64,
-    pub c: u64,
+    pub c: u32,
 }
 
 pub struct Done {

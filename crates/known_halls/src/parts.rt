@@ -46,6 +46,10 @@ fn written(w: Written) -> Answer {
     }
 }
 
+fn wide(x: u32) -> u64 {
+    x as u64
+}
+
 fn edit(
     ask: u64,
     n: u64,
@@ -58,7 +62,7 @@ fn edit(
 ) -> Answer {
     let u = link.u;
     let v = link.v;
-    let c = link.c;
+    let c = wide(link.c);
     if ask == INSERT {
         return edited(edits::insert(n, u, v, c, cost, time, ways, share, score));
     }

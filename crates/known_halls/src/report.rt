@@ -1,51 +1,84 @@
-// Calls with what they answered written behind a name, and lines on what tables hold. A call's
-// function gives the tables that it left.
+// Calls with what they answered written behind a name, and what the lister says of it; and lines on
+// what tables hold. A call's function gives the tables that it left.
 use super::calls;
 use super::calls::Link;
+use super::listed;
 use super::tables;
 use super::tables::Tables;
 use super::text::end;
 use super::text::field;
 use super::text::say;
 
-fn link(u: u64, v: u64, c: u64) -> Link {
+fn link(u: u64, v: u64, c: u32) -> Link {
     Link { u, v, c }
 }
 
-// A call that brings no link.
-fn said(name: &[u8], ask: u64, n: u64, image: &[u8], t: Tables) -> Tables {
-    let done = calls::change(ask, n, link(0, 0, 0), image, t);
+// Holds a call against the lister. An accepted one is to leave the costs `wanted` and their listed
+// tables, and `unlisted` counts what else of it is not the lister's; one refused with 11 would have
+// left `wanted`. Of both the lister tells the most ways of a pair.
+fn held(n: u64, refusal: u64, unlisted: u64, wanted: Tables, left: Tables) {
+    if refusal == 0 {
+        let entries = listed::unlisted_tables(n, wanted, left);
+        let count = std::num::wrapping_add_u64(unlisted, entries);
+        if count == 0 {
+            say(b", lister agrees");
+        } else {
+            field(b", entries that differ from the lister's ", count);
+        }
+        field(b", its most ways ", listed::most_ways(n, wanted));
+    }
+    if refusal == 11 {
+        field(b", lister's most ways ", listed::most_ways(n, wanted));
+    }
+}
+
+// A call that brings no link and is to leave the costs `wanted`.
+fn said(name: &[u8], ask: u64, n: u64, t: Tables, wanted: Tables) -> Tables {
+    let done = calls::change(ask, n, link(0, 0, 0), b"-", t);
     let answer = done.answer;
+    let left = done.tables;
     field(name, answer.refusal);
-    done.tables
+    held(n, answer.refusal, 0, wanted, left);
+    left
 }
 
 fn edited(name: &[u8], ask: u64, n: u64, brought: Link, t: Tables) -> Tables {
     let done = calls::change(ask, n, brought, b"-", t);
     let answer = done.answer;
+    let left = done.tables;
+    let wanted = tables::link(n, brought.u, brought.v, brought.c, t);
     field(name, answer.refusal);
     field(b", touched ", answer.touched);
     field(b", rows ", answer.rows);
-    done.tables
+    let unlisted = listed::unlisted_answer(n, brought, t, wanted, answer);
+    held(n, answer.refusal, unlisted, wanted, left);
+    left
 }
 
+// Where it is accepted, over tables of entries 0.
 pub fn empty_hall(name: &[u8], n: u64, t: Tables) -> Tables {
-    said(name, calls::EMPTY_HALL, n, b"-", t)
+    said(name, calls::EMPTY_HALL, n, t, tables::filled(0, 0))
 }
 
 pub fn work_out(name: &[u8], n: u64, t: Tables) -> Tables {
-    said(name, calls::WORK_OUT, n, b"-", t)
+    said(name, calls::WORK_OUT, n, t, t)
 }
 
+// The lister takes the costs that were read; whether they are the right ones is for `same` to say.
 pub fn image_read(name: &[u8], n: u64, image: &[u8], t: Tables) -> Tables {
-    said(name, calls::IMAGE_READ, n, image, t)
+    let done = calls::change(calls::IMAGE_READ, n, link(0, 0, 0), image, t);
+    let answer = done.answer;
+    let left = done.tables;
+    field(name, answer.refusal);
+    held(n, answer.refusal, 0, left, left);
+    left
 }
 
-pub fn insert(name: &[u8], n: u64, u: u64, v: u64, c: u64, t: Tables) -> Tables {
+pub fn insert(name: &[u8], n: u64, u: u64, v: u64, c: u32, t: Tables) -> Tables {
     edited(name, calls::INSERT, n, link(u, v, c), t)
 }
 
-pub fn cheapen(name: &[u8], n: u64, u: u64, v: u64, c: u64, t: Tables) -> Tables {
+pub fn cheapen(name: &[u8], n: u64, u: u64, v: u64, c: u32, t: Tables) -> Tables {
     edited(name, calls::CHEAPEN, n, link(u, v, c), t)
 }
 
@@ -106,15 +139,18 @@ pub fn worked(n: u64, t: Tables) -> Tables {
     left
 }
 
-// Inserts, and the tables that they left.
+// Inserts: how many were accepted, how much of what each answered and left is not the lister's, and
+// the tables that the last one left.
 pub struct Inserts {
     pub accepted: u64,
+    pub unlisted: u64,
     pub tables: Tables,
 }
 
 pub fn no_inserts(tables: Tables) -> Inserts {
     Inserts {
         accepted: 0,
+        unlisted: 0,
         tables,
     }
 }
@@ -124,19 +160,28 @@ fn one(refusal: u64) -> u64 {
 }
 
 // One insert more.
-pub fn inserted(n: u64, u: u64, v: u64, c: u64, before: Inserts) -> Inserts {
+pub fn inserted(n: u64, u: u64, v: u64, c: u32, before: Inserts) -> Inserts {
     let t = before.tables;
-    let done = calls::change(calls::INSERT, n, link(u, v, c), b"-", t);
+    let brought = link(u, v, c);
+    let done = calls::change(calls::INSERT, n, brought, b"-", t);
     let answer = done.answer;
     let accepted = std::num::wrapping_add_u64(before.accepted, one(answer.refusal));
+    let wanted = tables::link(n, u, v, c, t);
+    let more = listed::unlisted(n, brought, t, wanted, done);
+    let unlisted = std::num::wrapping_add_u64(before.unlisted, more);
     let tables = done.tables;
-    Inserts { accepted, tables }
+    Inserts {
+        accepted,
+        unlisted,
+        tables,
+    }
 }
 
 // A line on inserts that were to lead to the tables t.
 pub fn reached(n: u64, inserts: Inserts, t: Tables) {
-    field(b", accepted ", inserts.accepted);
     let left = inserts.tables;
+    field(b", accepted ", inserts.accepted);
+    held(n, 0, inserts.unlisted, left, left);
     audit(n, left);
     same(left, t);
     end();

@@ -114,7 +114,7 @@ pub fn score(v: usize, t: Tables) -> u64 {
     score_at(&score, v)
 }
 
-fn unlike(x: u64, y: u64) -> u64 {
+pub fn unlike(x: u64, y: u64) -> u64 {
     if x == y { 0 } else { 1 }
 }
 
@@ -187,6 +187,20 @@ fn smaller(x: u64, y: u64) -> u64 {
 
 fn larger(x: u64, y: u64) -> u64 {
     if x < y { y } else { x }
+}
+
+fn most(ways: &[u32; CELLS], count: usize) -> u64 {
+    let mut x = 0u64;
+    for i in 0..count {
+        x = larger(x, at(ways, i));
+    }
+    x
+}
+
+// The ways of the pair that has the most.
+pub fn most_ways(n: u64, t: Tables) -> u64 {
+    let ways = t.ways;
+    most(&ways, cells(n))
 }
 
 fn least_of(score: &[u64; STOPS], from: usize, to: usize) -> u64 {

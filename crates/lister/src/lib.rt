@@ -1,129 +1,36 @@
-// A slow lister of routes, for halls of at most eight stops. It lists every route from each stop to
-// each other, keeps the quickest, and counts: times, ways, shares, scores, and the sources that an
-// edited link touches. A larger n counts as eight.
-mod list;
+// A slow lister of routes, for halls of at most 64 stops. It walks over every route from each stop,
+// keeps count of the quickest to each other, and gives what they make: times, ways, shares, scores,
+// and the sources that an edited link touches. A larger n counts as 64. How long it takes goes by the
+// number of routes, and not of stops.
+//
+// What a hall's own entries hold, and which bits of stops a set has, the contracts leave free: to fix
+// it they would need the definitions of what the lister is held against.
+mod fill;
 mod route;
+mod tally;
+mod walk;
 
-ghost use Prim.Native.Nat.{_≤_, _<_};
-use list::ROUTES;
-use list::one_uses;
-use list::quickest;
-use list::through;
-use list::time_of;
-use route::cell;
+ghost use mathlib.Core.Path.{_≡_};
+ghost use Prim.Native.Nat.{_*_, _^_, _≤_, _<_, min};
+ghost use lib.Bits.{bitOr};
+ghost use lib.Count.{ones};
+ghost use lib.ListN.{drop};
+use fill::fill_row;
+use fill::fill_scores;
+use route::STOPS;
+use tally::ROOM;
+use tally::using_to;
+use walk::list;
 
-// What a whole share counts.
-const SCALE: u64 = 232792560;
-
-// The most stops of a hall that is listed.
-pub const STOPS: u64 = 8;
-
-fn few(n: u64) -> u64
-    ensures { λ r. ⌜ r ≤ 8 ⌝ }
+// The number of stops that are listed.
+fn few(n: u64) -> usize
+    ensures { λ r. ⌜ (r ≡ min n 64) × (r ≤ 64) ⌝ }
 {
-    if n < STOPS { n } else { STOPS }
+    if n < STOPS as u64 { n as usize } else { STOPS }
 }
 
-fn at(table: &[u64], i: usize) -> u64 {
-    if i < table.len() { table[i] } else { 0 }
-}
-
-fn put(table: &mut [u64], i: usize, x: u64) {
-    if i < table.len() {
-        table[i] = x;
-    }
-}
-
-// Adds x to an entry. A sum of shares of at most eight stops fits 64 bits.
-fn add(table: &mut [u64], i: usize, x: u64) {
-    if i < table.len() {
-        table[i] = std::num::wrapping_add_u64(table[i], x);
-    }
-}
-
-fn clear(table: &mut [u64]) {
-    for i in 0..table.len() {
-        put(table, i, 0);
-    }
-}
-
-// What `kept` quickest routes from s to t give v: the scale times those that stop at v ÷ all.
-fn portion(s: u64, t: u64, v: u64, routes: &[u64; ROUTES], kept: usize) -> u64
-    requires { ⌜ kept ≤ 1957 ⌝ }
-{
-    if v == s {
-        return 0;
-    }
-    if v == t {
-        return 0;
-    }
-    if kept == 0 {
-        return 0;
-    }
-    SCALE * through(routes, kept, v) / kept as u64
-}
-
-// Adds to row s of the shares what `kept` quickest routes from s to t give each stop.
-fn add_portions(n: u64, s: u64, t: u64, routes: &[u64; ROUTES], kept: usize, share: &mut [u64])
-    requires { ⌜ n ≤ 8 ⌝ }
-    requires { ⌜ s < n ⌝ }
-    requires { ⌜ kept ≤ 1957 ⌝ }
-{
-    for v in 0..n {
-        add(share, cell(n, s, v), portion(s, t, v, routes, kept));
-    }
-}
-
-// Lists the routes from s to t, and fills in what they give.
-fn pair(
-    cost: &[u32],
-    n: u64,
-    s: u64,
-    t: u64,
-    routes: &mut [u64; ROUTES],
-    time: &mut [u64],
-    ways: &mut [u64],
-    share: &mut [u64],
-)
-    requires { ⌜ n ≤ 8 ⌝ }
-    requires { ⌜ s < n ⌝ }
-    requires { ⌜ t < n ⌝ }
-{
-    let kept = quickest(cost, n, s, t, routes);
-    put(time, cell(n, s, t), time_of(cost, n, routes, kept));
-    put(ways, cell(n, s, t), kept as u64);
-    add_portions(n, s, t, routes, kept, share);
-}
-
-// Fills in what the routes from s give.
-fn row(
-    cost: &[u32],
-    n: u64,
-    s: u64,
-    routes: &mut [u64; ROUTES],
-    time: &mut [u64],
-    ways: &mut [u64],
-    share: &mut [u64],
-)
-    requires { ⌜ n ≤ 8 ⌝ }
-    requires { ⌜ s < n ⌝ }
-{
-    for t in 0..n {
-        pair(cost, n, s, t, routes, time, ways, share);
-    }
-}
-
-// Adds row s of the shares to the scores.
-fn add_row(n: u64, s: u64, share: &[u64], score: &mut [u64])
-    requires { ⌜ n ≤ 8 ⌝ }
-    requires { ⌜ s < n ⌝ }
-{
-    for v in 0..n {
-        add(score, v as usize, at(share, cell(n, s, v)));
-    }
-}
-
-// Fills the times, the ways, the shares and the scores of a cost table.
+// Fills the times, the ways, the shares and the scores of a cost table. What a lent table has behind
+// the hall's entries stays.
 pub fn tables(
     cost: &[u32],
     n: u64,
@@ -131,48 +38,82 @@ pub fn tables(
     ways: &mut [u64],
     share: &mut [u64],
     score: &mut [u64],
-) {
+)
+    ensures { λ r. ⌜ drop (min n 64 * min n 64) (now (time .exit)) ≡ drop (min n 64 * min n 64) (now (time .entry)) ⌝ }
+    ensures { λ r. ⌜ drop (min n 64 * min n 64) (now (ways .exit)) ≡ drop (min n 64 * min n 64) (now (ways .entry)) ⌝ }
+    ensures { λ r. ⌜ drop (min n 64 * min n 64) (now (share .exit)) ≡ drop (min n 64 * min n 64) (now (share .entry)) ⌝ }
+    ensures { λ r. ⌜ drop (min n 64) (now (score .exit)) ≡ drop (min n 64) (now (score .entry)) ⌝ }
+{
     let n = few(n);
-    let mut routes = [0u64; ROUTES];
-    clear(share);
-    clear(score);
+    let mut tally = [0u64; ROOM];
     for s in 0..n {
-        row(cost, n, s, &mut routes, time, ways, share);
-        add_row(n, s, share, score);
+        list(cost, n, s, 0, 0, &mut tally);
+        fill_row(n, s, &tally, time, ways, share);
     }
+    fill_scores(n, share, score);
 }
 
 // Whether a quickest route from s goes from u on to v.
-fn touches(cost: &[u32], n: u64, s: u64, u: u64, v: u64, routes: &mut [u64; ROUTES]) -> bool
-    requires { ⌜ n ≤ 8 ⌝ }
+fn touches(cost: &[u32], n: usize, s: usize, u: usize, v: usize, tally: &mut [u64; ROOM]) -> bool
+    requires { ⌜ n ≤ 64 ⌝ }
     requires { ⌜ s < n ⌝ }
 {
+    list(cost, n, s, u, v, tally);
     for t in 0..n {
-        let kept = quickest(cost, n, s, t, routes);
-        if one_uses(routes, kept, u, v) {
+        if using_to(tally, t) > 0 {
             return true;
         }
     }
     false
 }
 
-// The sources from which a quickest route, before or after, uses the link from u to v: bit s for s.
-pub fn touched(before: &[u32], after: &[u32], n: u64, u: u64, v: u64) -> u64 {
+// Whether one does in the hall before or in the hall after.
+fn touches_either(
+    before: &[u32],
+    after: &[u32],
+    n: usize,
+    s: usize,
+    u: usize,
+    v: usize,
+    tally: &mut [u64; ROOM],
+) -> bool
+    requires { ⌜ n ≤ 64 ⌝ }
+    requires { ⌜ s < n ⌝ }
+{
+    if touches(before, n, s, u, v, tally) {
+        return true;
+    }
+    touches(after, n, s, u, v, tally)
+}
+
+// The set with s in it: bit s is 1.
+fn with(set: u64, s: usize) -> u64
+    requires { ⌜ s < 64 ⌝ }
+    ensures { λ r. ⌜ r ≡ bitOr set (2 ^ s) ⌝ }
+{
+    set | 1 << s
+}
+
+// The set of the sources from which a quickest route, before or after, uses the link from u to v. Only
+// bits of stops are 1 in it.
+pub fn touched(before: &[u32], after: &[u32], n: u64, u: u64, v: u64) -> u64
+    ensures { λ r. ⌜ r < 2 ^ min n 64 ⌝ }
+{
     let n = few(n);
-    let mut routes = [0u64; ROUTES];
+    let mut tally = [0u64; ROOM];
     let mut set = 0;
     for s in 0..n {
-        if touches(before, n, s, u, v, &mut routes) {
-            set = set | 1 << s;
-        } else if touches(after, n, s, u, v, &mut routes) {
-            set = set | 1 << s;
+        if touches_either(before, after, n, s, u as usize, v as usize, &mut tally) {
+            set = with(set, s);
         }
     }
     set
 }
 
 // How many bits of a set are 1.
-pub fn number(set: u64) -> u64 {
+pub fn number(set: u64) -> u64
+    ensures { λ r. ⌜ r ≡ ones set ⌝ }
+{
     let mut number = 0;
     let mut rest = set;
     while rest > 0 {

@@ -1,76 +1,98 @@
-// A route, written as a decimal number: a 9, then a digit for each of its stops. The route 0, 2, 3
-// is 9023. No stop is above 7 and none is on a route twice, so a route has at most nine digits.
-ghost use Prim.Native.Nat.{_≤_};
+// A route in hand: the first k bytes of an array are its stops, in order. No stop is on a route twice,
+// so that none has more than 64.
+ghost use mathlib.Core.Path.{_≡_};
+ghost use Prim.Native.Nat.{_+_, _*_, _≤_, _<_};
+
+// The most stops of a hall, and so of a route.
+pub const STOPS: usize = 64;
 
 // Where a table has its entry for u and v.
-pub fn cell(n: u64, u: u64, v: u64) -> usize
-    requires { ⌜ n ≤ 8 ⌝ }
-    requires { ⌜ u ≤ 9 ⌝ }
-    requires { ⌜ v ≤ 9 ⌝ }
+pub fn cell(n: usize, u: usize, v: usize) -> usize
+    requires { ⌜ n ≤ 64 ⌝ }
+    requires { ⌜ u ≤ 255 ⌝ }
+    requires { ⌜ v ≤ 255 ⌝ }
+    ensures { λ r. ⌜ r ≡ u * n + v ⌝ }
 {
-    (u * n + v) as usize
+    u * n + v
+}
+
+fn wide(x: u32) -> u64
+    ensures { λ r. ⌜ r ≤ 4294967295 ⌝ }
+{
+    x as u64
+}
+
+fn stop_of(x: u8) -> usize
+    ensures { λ r. ⌜ r ≤ 255 ⌝ }
+{
+    x as usize
 }
 
 // The cost of the link from u to v, 0 where there is none.
-pub fn link(cost: &[u32], n: u64, u: u64, v: u64) -> u64
-    requires { ⌜ n ≤ 8 ⌝ }
-    requires { ⌜ u ≤ 9 ⌝ }
-    requires { ⌜ v ≤ 9 ⌝ }
+pub fn link(cost: &[u32], n: usize, u: usize, v: usize) -> u64
+    requires { ⌜ n ≤ 64 ⌝ }
+    requires { ⌜ u ≤ 255 ⌝ }
+    requires { ⌜ v ≤ 255 ⌝ }
+    ensures { λ r. ⌜ r ≤ 4294967295 ⌝ }
 {
     let at = cell(n, u, v);
     if at < cost.len() { wide(cost[at]) } else { 0 }
 }
 
-fn wide(x: u32) -> u64 {
-    x as u64
+// The stop at a place of the route.
+pub fn stop(route: &[u8; STOPS], i: usize) -> usize
+    requires { ⌜ i < 64 ⌝ }
+    ensures { λ r. ⌜ r ≤ 255 ⌝ }
+{
+    stop_of(route[i])
 }
 
 // Whether the route stops at v.
-pub fn stops_at(route: u64, v: u64) -> bool {
-    let mut rest = route;
-    while rest > 9 {
-        if rest % 10 == v {
+pub fn stops_at(route: &[u8; STOPS], k: usize, v: usize) -> bool
+    requires { ⌜ k ≤ 64 ⌝ }
+{
+    for i in 0..k {
+        if stop(route, i) == v {
             return true;
         }
-        rest /= 10;
     }
     false
 }
 
 // Whether the route goes from u on to v.
-pub fn uses(route: u64, u: u64, v: u64) -> bool {
-    let mut rest = route;
-    while rest > 99 {
-        if rest % 10 == v {
-            if rest / 10 % 10 == u {
+pub fn uses(route: &[u8; STOPS], k: usize, u: usize, v: usize) -> bool
+    requires { ⌜ k ≤ 64 ⌝ }
+{
+    for i in 1..k {
+        if stop(route, i - 1) == u {
+            if stop(route, i) == v {
                 return true;
             }
         }
-        rest /= 10;
     }
     false
 }
 
-// The sum of the route's costs. Seven costs of 32 bits fit 64.
-pub fn time(cost: &[u32], n: u64, route: u64) -> u64
-    requires { ⌜ n ≤ 8 ⌝ }
+// The sum of the route's costs.
+pub fn time(cost: &[u32], n: usize, route: &[u8; STOPS], k: usize) -> u64
+    requires { ⌜ n ≤ 64 ⌝ }
+    requires { ⌜ k ≤ 64 ⌝ }
 {
     let mut sum = 0;
-    let mut rest = route;
-    while rest > 99 {
-        sum = std::num::wrapping_add_u64(sum, link(cost, n, rest / 10 % 10, rest % 10));
-        rest /= 10;
+    for i in 1..k {
+        sum += link(cost, n, stop(route, i - 1), stop(route, i));
     }
     sum
 }
 
 // Whether a link leads from the route's last stop to v, and the route does not stop at v.
-pub fn goes_on(cost: &[u32], n: u64, route: u64, v: u64) -> bool
-    requires { ⌜ n ≤ 8 ⌝ }
-    requires { ⌜ v ≤ 9 ⌝ }
+pub fn goes_on(cost: &[u32], n: usize, route: &[u8; STOPS], k: usize, v: usize) -> bool
+    requires { ⌜ n ≤ 64 ⌝ }
+    requires { ⌜ (0 < k) × (k ≤ 64) ⌝ }
+    requires { ⌜ v < 64 ⌝ }
 {
-    if link(cost, n, route % 10, v) == 0 {
+    if link(cost, n, stop(route, k - 1), v) == 0 {
         return false;
     }
-    !stops_at(route, v)
+    !stops_at(route, k, v)
 }

@@ -1,4 +1,4 @@
-// Writes the lister's tables of two halls that were worked out by hand, and what the edits that
+// Writes the lister's tables of three halls that were worked out by hand, and what the edits that
 // make and change the first of them touch.
 ghost use Prim.Native.Nat.{_<_};
 
@@ -16,12 +16,12 @@ fn at(table: &[u64], i: usize) -> u64 {
     if i < table.len() { table[i] } else { 0 }
 }
 
-// Writes the four tables of a hall; they have n × n entries.
+// Writes the four tables of a hall of at most ten stops; they have n × n entries.
 fn hall(cost: &[u32], n: u64, entries: usize) {
-    let mut time = [0u64; 64];
-    let mut ways = [0u64; 64];
-    let mut share = [0u64; 64];
-    let mut score = [0u64; 8];
+    let mut time = [0u64; 100];
+    let mut ways = [0u64; 100];
+    let mut share = [0u64; 100];
+    let mut score = [0u64; 10];
     lister::tables(cost, n, &mut time, &mut ways, &mut share, &mut score);
     line(b"time", &time, entries);
     line(b"ways", &ways, entries);
@@ -85,6 +85,17 @@ fn ties() -> [u32; 25] {
     ]
 }
 
+// A line of ten stops, each with a link of cost 1 to the next, and a link of cost 9 from the first to
+// the last, which takes as long as the line.
+fn line_of_ten() -> [u32; 100] {
+    let mut cost = [0u32; 100];
+    for u in 0..9usize {
+        cost[u * 10 + u + 1] = 1;
+    }
+    cost[9] = 9;
+    cost
+}
+
 fn main() {
     let mut former = [0u32; 16];
     let mut present = [0u32; 16];
@@ -100,4 +111,5 @@ fn main() {
     edit(before, diamond, 2, 3, 0);
     hall(diamond, 4, 16);
     hall(&ties(), 5, 25);
+    hall(&line_of_ten(), 10, 100);
 }

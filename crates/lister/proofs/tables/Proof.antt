@@ -1,58 +1,36 @@
--- `lister::tables` is safe and ends. Assumes nothing.
-use Prim.Native.Nat.{_-_, _≤_}
-use mathlib.Core.Path.{_≡_}
-use lib.ListN.{length}
+-- `lister::tables` meets its contract: no row and no score reaches behind the hall's entries. Assumes nothing.
+use Prim.Native.Nat.{_-_, _*_, _≤_}
+use mathlib.Core.Path.{_≡_, _∙_}
+use lib.ListN.{length, drop}
 use borrow.Author.Needs.{needs}
 use Rattle.lister.proofs.tables.Statement.{statement}
 use Rattle.lister.proofs.tables.Tie as tie
 
 abbrev Inv-loop : tie.InvT-loop
-Inv-loop cost n time₀ ways₀ share₀ score₀ n' routes₀ s₀ time ways share score routes s = (s ≤ n') × (length time ≡ length time₀) × (length ways ≡ length ways₀) × (length share ≡ length share₀) × (length score ≡ length score₀)
+Inv-loop cost n time₀ ways₀ share₀ score n' tally₀ s₀ time ways share tally s = (s ≤ n') × (length time ≡ length time₀) × (length ways ≡ length ways₀) × (length share ≡ length share₀) × (drop (n' * n') time ≡ drop (n' * n') time₀) × (drop (n' * n') ways ≡ drop (n' * n') ways₀) × (drop (n' * n') share ≡ drop (n' * n') share₀)
 
 abbrev μ-loop : tie.MeasureT-loop
-μ-loop cost n time₀ ways₀ share₀ score₀ n' routes₀ s₀ time ways share score routes s = n' - s
-
-few-requires : tie.Need-few-requires Inv-loop μ-loop
-few-requires c κs = search needs
-
-clear-requires : tie.Need-clear-requires Inv-loop μ-loop
-clear-requires c κs = search needs
-
-clear-requires-2 : tie.Need-clear-requires-2 Inv-loop μ-loop
-clear-requires-2 c κs = search needs
-
-loop-holds : tie.Need-loop-holds Inv-loop μ-loop
-loop-holds c = search needs
-
-row-requires : tie.Need-row-requires Inv-loop μ-loop
-row-requires c κs = search needs
-
-add-row-requires : tie.Need-add-row-requires Inv-loop μ-loop
-add-row-requires c κs = search needs
-
-add-s : tie.Need-add-s Inv-loop μ-loop
-add-s c = search needs
-
-loop-less : tie.Need-loop-less Inv-loop μ-loop
-loop-less c = search needs
+μ-loop cost n time₀ ways₀ share₀ score n' tally₀ s₀ time ways share tally s = n' - s
 
 loop-again : tie.Need-loop-again Inv-loop μ-loop
-loop-again c = search needs
-
-same-length : tie.Need-same-length Inv-loop μ-loop
-same-length c = search needs
-
-same-length-2 : tie.Need-same-length-2 Inv-loop μ-loop
-same-length-2 c = search needs
-
-same-length-3 : tie.Need-same-length-3 Inv-loop μ-loop
-same-length-3 c = search needs
-
-same-length-4 : tie.Need-same-length-4 Inv-loop μ-loop
-same-length-4 c = search needs
+loop-again c =
+    let loop : tie.At-loop Inv-loop μ-loop = search in
+    let row : tie.After-fill-row Inv-loop μ-loop = search in (
+      search needs,
+      search needs,
+      search needs,
+      search needs,
+      row .fill-row .ensures .0 ∙ loop .loop .inv .4,
+      row .fill-row .ensures .1 .0 ∙ loop .loop .inv .5,
+      row .fill-row .ensures .1 .1 ∙ loop .loop .inv .6,
+    )
 
 returns : tie.Need-returns Inv-loop μ-loop
-returns c = search needs
+returns c =
+    let few : tie.After-few Inv-loop μ-loop = search in
+    let loop : tie.At-loop Inv-loop μ-loop = search in
+    let scores : tie.After-fill-scores Inv-loop μ-loop = search in
+    rw (← few .few .ensures .0) (loop .loop .inv .4, (loop .loop .inv .5, (loop .loop .inv .6, scores .fill-scores .ensures)))
 
 pub tables-spec : {M : Type 1} → statement M
 tables-spec =
@@ -60,17 +38,16 @@ tables-spec =
     (tie.spec
     Inv-loop
     μ-loop
-    few-requires
-    clear-requires
-    clear-requires-2
-    loop-holds
-    row-requires
-    add-row-requires
-    add-s
-    loop-less
+    (λ c κs. search needs)
+    (λ c. search needs)
+    (λ c κs. search needs)
+    (λ c κs. search needs)
+    (λ c. search needs)
+    (λ c. search needs)
     loop-again
-    same-length
-    same-length-2
-    same-length-3
-    same-length-4
+    (λ c κs. search needs)
+    (λ c. search needs)
+    (λ c. search needs)
+    (λ c. search needs)
+    (λ c. search needs)
     returns)

@@ -1,44 +1,34 @@
--- `lister::touched` is safe and ends. Assumes nothing.
-use Prim.Native.Nat.{_-_, _≤_}
+-- `lister::touched` meets its contract: only bits below n are set. Assumes nothing.
+use Prim.Native.Nat.{_-_, _^_, _≤_, _<_}
+use mathlib.Core.Logic.{⊎-elim}
+use lib.Bits.{or-lt}
+use lib.Pow.{pow-lt, pow-pos}
 use borrow.Author.Needs.{needs}
 use Rattle.lister.proofs.touched.Statement.{statement}
 use Rattle.lister.proofs.touched.Tie as tie
 
 abbrev Inv-loop : tie.InvT-loop
-Inv-loop before after n u v n' routes₀ set₀ s₀ routes set s = s ≤ n'
+Inv-loop before after n u v n' tally₀ set₀ s₀ tally set s = (s ≤ n') × (set < 2 ^ n')
 
 abbrev μ-loop : tie.MeasureT-loop
-μ-loop before after n u v n' routes₀ set₀ s₀ routes set s = n' - s
-
-few-requires : tie.Need-few-requires Inv-loop μ-loop
-few-requires c κs = search needs
+μ-loop before after n u v n' tally₀ set₀ s₀ tally set s = n' - s
 
 loop-holds : tie.Need-loop-holds Inv-loop μ-loop
-loop-holds c = search needs
-
-touches-requires : tie.Need-touches-requires Inv-loop μ-loop
-touches-requires c κs = search needs
-
-shl-set : tie.Need-shl-set Inv-loop μ-loop
-shl-set c = search needs
-
-touches-requires-2 : tie.Need-touches-requires-2 Inv-loop μ-loop
-touches-requires-2 c κs = search needs
-
-shl-set-2 : tie.Need-shl-set-2 Inv-loop μ-loop
-shl-set-2 c = search needs
-
-add-s : tie.Need-add-s Inv-loop μ-loop
-add-s c = search needs
-
-loop-less : tie.Need-loop-less Inv-loop μ-loop
-loop-less c = search needs
+loop-holds c = (search needs, pow-pos _)
 
 loop-again : tie.Need-loop-again Inv-loop μ-loop
-loop-again c = search needs
+loop-again c =
+    let loop : tie.At-loop Inv-loop μ-loop = search in
+    let few : tie.After-few Inv-loop μ-loop = search in
+    let below : loop .loop .s < few .few .result = search needs in
+    let joined = or-lt (few .few .result) (loop .loop .set) (2 ^ loop .loop .s) (loop .loop .inv .1) (pow-lt below) in
+    (search needs, ⊎-elim (λ w. rw (w .2, w .1 .ensures) joined) (λ w. rw (w .1) (loop .loop .inv .1)) (c .if1 .came))
 
 returns : tie.Need-returns Inv-loop μ-loop
-returns c = search needs
+returns c =
+    let few : tie.After-few Inv-loop μ-loop = search in
+    let loop : tie.At-loop Inv-loop μ-loop = search in
+    rw (← few .few .ensures .0) (loop .loop .inv .1)
 
 pub touched-spec : {M : Type 1} → statement M
 touched-spec =
@@ -46,13 +36,11 @@ touched-spec =
     (tie.spec
     Inv-loop
     μ-loop
-    few-requires
+    (λ c κs. search needs)
     loop-holds
-    touches-requires
-    shl-set
-    touches-requires-2
-    shl-set-2
-    add-s
-    loop-less
+    (λ c κs. search needs)
+    (λ c κs. search needs)
+    (λ c. search needs)
+    (λ c. search needs)
     loop-again
     returns)

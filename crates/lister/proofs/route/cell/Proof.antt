@@ -1,4 +1,4 @@
--- `lister::route::cell` is safe: u × n is at most 9 × 8. Assumes nothing.
+-- `lister::route::cell` meets its contract: u × n is at most 255 × 64. Assumes nothing.
 use native.Mathlib.Omega.{arith}
 use native.Mathlib.Nat.{mul-le-mul}
 use borrow.Author.Needs.{needs}
@@ -11,8 +11,10 @@ mul-result c = omega (arith, mul-le-mul (c .pre .1 .0) (c .pre .0))
 add-result : tie.Need-add-result
 add-result c = omega (arith, mul-le-mul (c .pre .1 .0) (c .pre .0))
 
-returns : tie.Need-returns
-returns c = search needs
-
 pub cell-spec : {M : Type 1} → statement M
-cell-spec = tie.close (tie.spec mul-result add-result returns)
+cell-spec =
+    tie.close
+    (tie.spec
+    mul-result
+    add-result
+    (λ c. search needs))

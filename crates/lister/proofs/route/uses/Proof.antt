@@ -1,28 +1,27 @@
--- `lister::route::uses` is safe and ends: a digit is dropped at each turn. Assumes nothing.
+-- `lister::route::uses` is safe and ends. Assumes nothing.
+use Prim.Native.Nat.{_-_, _≤_}
 use borrow.Author.Needs.{needs}
 use Rattle.lister.proofs.route.uses.Statement.{statement}
 use Rattle.lister.proofs.route.uses.Tie as tie
 
 abbrev Inv-loop : tie.InvT-loop
-Inv-loop route u v rest₀ rest = Unit {0}
+Inv-loop route k u v i₀ i = 1 ≤ i
 
 abbrev μ-loop : tie.MeasureT-loop
-μ-loop route u v rest₀ rest = rest
-
-loop-holds : tie.Need-loop-holds Inv-loop μ-loop
-loop-holds c = search needs
-
-returns : tie.Need-returns Inv-loop μ-loop
-returns c = search needs
-
-loop-less : tie.Need-loop-less Inv-loop μ-loop
-loop-less c = search needs
-
-loop-again : tie.Need-loop-again Inv-loop μ-loop
-loop-again c = search needs
-
-returns-2 : tie.Need-returns-2 Inv-loop μ-loop
-returns-2 c = search needs
+μ-loop route k u v i₀ i = k - i
 
 pub uses-spec : {M : Type 1} → statement M
-uses-spec = tie.close (tie.spec Inv-loop μ-loop loop-holds returns loop-less loop-again returns-2)
+uses-spec =
+    tie.close
+    (tie.spec
+    Inv-loop
+    μ-loop
+    (λ c. search needs)
+    (λ c. search needs)
+    (λ c κs. search needs)
+    (λ c κs. search needs)
+    (λ c. search needs)
+    (λ c. search needs)
+    (λ c. search needs)
+    (λ c. search needs)
+    (λ c. search needs))
