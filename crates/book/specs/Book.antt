@@ -31,14 +31,15 @@ bookAnswer c b = reply (c .n) (bookRefusal c b) (rule (c .n) (c .ask) (b .links)
 abbrev pub noLinks : ℕ → Book
 noLinks N = record { stops = N; links = replicate (N * N) 0 }
 
--- a state after some steps, each from where the last one led, and what was said at each
+-- a state after some steps, each from where the last one led
 unfoldable pub run : {C S : Type 0} → (C → S → S) → List C → S → S
 run step [] state = state
 run step (c ∷ rest) state = run step rest (step c state)
 
-unfoldable pub answers : {C S : Type 0} → (C → S → S) → (C → S → Answer) → List C → S → List Answer
-answers step say [] state = []
-answers step say (c ∷ rest) state = say c state ∷ answers step say rest (step c state)
+-- what the book says to each of some calls
+unfoldable pub bookAnswers : List Call → Book → List Answer
+bookAnswers [] b = []
+bookAnswers (c ∷ calls) b = bookAnswer c b ∷ bookAnswers calls (bookAfter c b)
 
 -- a call that was made: the tables that it left, and its answer
 pub record Step : Type 0 where
@@ -50,20 +51,33 @@ pub record Step : Type 0 where
 abbrev pub callsOf : List Step → List Call
 callsOf steps = map (λ s. s .call) steps
 
--- the five that a call is lent: work out brings its cost table in place of theirs
-abbrev pub lent : Ask → Tables → Tables
-lent emptyHall t = t
-lent audit t = t
-lent (workOut cost) t = record { cost = cost; time = t .time; ways = t .ways; share = t .share; score = t .score }
-lent (edit k u v c) t = t
-lent (imageWrite buffer) t = t
-lent (imageRead image) t = t
+-- the cost table that a call is lent: work out brings its own in place of theirs
+abbrev pub costLent : Ask → List ℕ → List ℕ
+costLent emptyHall present = present
+costLent audit present = present
+costLent (workOut cost) present = cost
+costLent (edit k u v c) present = present
+costLent (imageWrite buffer) present = present
+costLent (imageRead image) present = present
 
--- the five after it: those that it left, with the former cost table where it was refused
+-- the one that stays after it: what it left, but after a refused work out the former one
+abbrev pub costKept : Ask → Bool → (left former : List ℕ) → List ℕ
+costKept emptyHall taken left former = left
+costKept audit taken left former = left
+costKept (workOut cost) taken left former = cond taken left former
+costKept (edit k u v c) taken left former = left
+costKept (imageWrite buffer) taken left former = left
+costKept (imageRead image) taken left former = left
+
+-- the five tables with another cost table; what a call is lent of the five t, and what the five are after it
+abbrev pub withCost : List ℕ → Tables → Tables
+withCost cost t = record { cost = cost; time = t .time; ways = t .ways; share = t .share; score = t .score }
+
+abbrev pub lent : Ask → Tables → Tables
+lent ask t = withCost (costLent ask (t .cost)) t
+
 abbrev pub kept : Step → Tables → Tables
-kept s t =
-    let cost : List ℕ = cond (accepted (s .answer .refusal)) (s .left .cost) (t .cost) in
-    record { cost = cost; time = s .left .time; ways = s .left .ways; share = s .left .share; score = s .left .score }
+kept s t = withCost (costKept (s .call .ask) (accepted (s .answer .refusal)) (s .left .cost) (t .cost)) (s .left)
 
 -- a sequence of calls from the five tables t: each is lent the five that the last one left, and does what its contract promises
 unfoldable pub Sequence : Tables → List Step → Type 0
@@ -96,6 +110,6 @@ pub record Started (N : ℕ) (start : Tables) : Type 0 where
 unfoldable pub Demand3 : Type 0
 Demand3 = (N : ℕ) (start : Tables) (steps : List Step) → Started N start → Sequence start steps →
     (run kept steps start ≡ filled scale N (run bookAfter (callsOf steps) (noLinks N) .links)) ×
-    (map (λ s. s .answer) steps ≡ answers bookAfter bookAnswer (callsOf steps) (noLinks N)) ×
-    ((made rest : List Step) (s : Step) (k : Kind) (u v x : ℕ) → steps ≡ made ++ s ∷ rest → s .call .ask ≡ edit k u v x →
-    s .answer .refusal ≡ Accepted → Edited (s .call .n) u v (run kept made start) (s .left) (s .answer))
+    (map (λ s. s .answer) steps ≡ bookAnswers (callsOf steps) (noLinks N)) ×
+    ((before rest : List Step) (s : Step) (k : Kind) (u v c : ℕ) → steps ≡ before ++ s ∷ rest → s .call .ask ≡ edit k u v c →
+    s .answer .refusal ≡ Accepted → Edited (s .call .n) u v (run kept before start) (s .left) (s .answer))

@@ -1,4 +1,4 @@
--- The largest scores, times and ways, of the tables of every hall that a call accepts. Assumes nothing.
+-- Bounds of scores, times and ways, in the tables of every hall that a call accepts. Assumes nothing.
 use Prim.Native.Nat.{ℕ, _+_, _*_, _-_, _<_, _≤_}
 use native.Mathlib.Nat.{mul-le-mul-right}
 use native.Mathlib.Omega.{arith}
@@ -23,10 +23,10 @@ use Rattle.book.specs.TableLaws.{entry-table, valid-costs}
 use Rattle.book.specs.Steps.{Held, accepted-held}
 use Rattle.book.specs.Sequence.{of-books}
 
--- no score passes 63 × 62 × L, no time but the mark passes 63 × 65,535, and no pair has more than 22 ways
+-- no score passes 63 × 62 × L = 909,287,739,360, no time but the mark 63 × 65,535 = 4,128,705, and no pair has more than 22 ways
 pub record Bounded (n : ℕ) (t : Tables) : Type 0 where
-  pub scores : (v : ℕ) → getD (t .score) v 0 ≤ 63 * 62 * scale
-  pub times : (s v : ℕ) → s < n → v < n → entry n (t .time) s v ≢ mark → entry n (t .time) s v ≤ 63 * largestCost
+  pub scores : (v : ℕ) → getD (t .score) v 0 ≤ 909287739360
+  pub times : (s v : ℕ) → s < n → v < n → entry n (t .time) s v ≢ mark → entry n (t .time) s v ≤ 4128705
   pub counts : (s v : ℕ) → s < n → v < n → entry n (t .ways) s v ≤ mostWays
 
 module _ (n : ℕ) (cost : List ℕ) (h : Held n cost) where
@@ -39,11 +39,11 @@ module _ (n : ℕ) (cost : List ℕ) (h : Held n cost) where
   small : n * largestCost < mark
   small = omega (arith, mul-le-mul-right largestCost most)
 
-  score-bound : (v : ℕ) → getD (filled scale n cost .score) v 0 ≤ 63 * 62 * scale
+  score-bound : (v : ℕ) → getD (filled scale n cost .score) v 0 ≤ 909287739360
   unfolding filled
   score-bound v = go (ltb v n) refl
     where
-      go : (b : Bool) → ltb v n ≡ b → getD (listTo n (score W n scale)) v 0 ≤ 63 * 62 * scale
+      go : (b : Bool) → ltb v n ≡ b → getD (listTo n (score W n scale)) v 0 ≤ 909287739360
       go true e =
           let l = ltb-true v n e in
           let few = score-limit W n scale v most l (λ s k. flows W n s largestCost k (valid-costs n cost (h .valid) .most) small) in
@@ -52,7 +52,7 @@ module _ (n : ℕ) (cost : List ℕ) (h : Held n cost) where
           let beyond : length (listTo n (score W n scale)) ≤ v = omega (arith, length-listTo n (score W n scale), ltb-false v n e) in
           omega (arith, List·getD-eq-default (listTo n (score W n scale)) 0 beyond)
 
-  time-bound : (s v : ℕ) → s < n → v < n → leastTime W n s v ≢ mark → leastTime W n s v ≤ 63 * largestCost
+  time-bound : (s v : ℕ) → s < n → v < n → leastTime W n s v ≢ mark → leastTime W n s v ≤ 4128705
   time-bound s v k l some =
       let fewer : n - 1 ≤ 63 = omega (arith, most) in
       omega (arith, least-bound W n s largestCost k (valid-costs n cost (h .valid) .most) small v l some, mul-le-mul-right largestCost fewer)

@@ -4,7 +4,7 @@ use Prim.Native.Nat.{ℕ, zero, suc, _*_, _%_, _<_, _≤_, _∣_}
 use native.Mathlib.Nat.{dvd-of-mod-eq-zero, dvd-mul-right-of-dvd, div-mul-cancel, lt-irrefl}
 use mathlib.Core.Path.{_≡_, refl, _∙_, ap}
 use mathlib.Core.Logic.{_≢_}
-use mathlib.Core.Bool.{true, and-eq-true-iff, or-true}
+use mathlib.Core.Bool.{Bool, true, false, cond, and-eq-true-iff, or-true}
 use mathlib.Core.List.{List, [], _∷_, _++_}
 use lib.Dec.{eqb, leb, lit<}
 use lib.ListN.{length, take, drop}
@@ -12,12 +12,12 @@ use lib.Seq.{take-append-seam}
 use borrow.Author.Tests.{eqb-true, eq-eqb, ne-eqb, leb-true, le-leb}
 use Rattle.routes.specs.Route.{Costs, allTo, ways, through, portion}
 use Rattle.routes.specs.Sums.{all-true}
-use Rattle.book.specs.Hall.{Tables, mostStops, mostWays, scale, upTo, filled, sized, validCosts, uncrowded, right, imageOf, isImage, costsOf}
-use Rattle.book.specs.Call.{Call, edit, imageWrite, imageRead, accepted, rule, Answer, reply, refusal, after, answer}
+use Rattle.book.specs.Hall.{Tables, mostStops, mostWays, scale, upTo, entry, filled, sized, validPair, validCosts, uncrowded, right, imageOf, isImage, costsOf}
+use Rattle.book.specs.Call.{Call, audit, edit, imageWrite, imageRead, accepted, costTests, edited, rule, Answer, reply, refusal, after, answer}
 use Rattle.book.specs.ByteLaws.{Bytes}
 use Rattle.book.specs.ImageLaws.{written-read, written-costs, read-written, read-valid, length-read}
 use Rattle.book.specs.Filled.{sized-filled, sized-cost, right-filled, right-true}
-use Rattle.book.specs.Passed.{need-true, passed, edit-alone}
+use Rattle.book.specs.Passed.{need-true, passed, audited, edit-alone}
 use Rattle.book.specs.NoLinks.{valid-none, uncrowded-none}
 use Rattle.book.specs.declared.Kind.{Kind}
 use Rattle.book.specs.declared.Refusal.the-variants.{Accepted, BadSize, BadLength, BadTables, BadStop, BadImage, TooManyWays}
@@ -43,14 +43,35 @@ one-stop k u v c =
     rw (sized-filled scale 1 1 (0 ∷ []) refl, right-filled scale mostWays 1 (0 ∷ []) (valid-none 1) (uncrowded-none mostWays 1 (lit< tt)), or-true)
     (edit-alone k u v c (filled scale 1 (0 ∷ []) .cost))
 
+-- accepted or refused, a call that audits and leaves the present costs leaves the tables: an audit and an image write
+leaves-tables : (c : Call) (t : Tables) → rule (c .n) (c .ask) (t .cost) .audits ≡ true → rule (c .n) (c .ask) (t .cost) .left ≡ t .cost → after c t ≡ t
+unfolding after
+leaves-tables c t audits same = rw same (go (accepted (refusal c t)) refl)
+  where
+    go : (b : Bool) → accepted (refusal c t) ≡ b → cond b (filled scale (c .n) (t .cost)) t ≡ t
+    go true e = right-true scale mostWays (c .n) t (audited c t e audits) .2
+    go false e = refl
+
+pub audit-leaves : (n : ℕ) (t : Tables) → after (record { n = n; ask = audit }) t ≡ t
+unfolding rule
+audit-leaves n t = leaves-tables (record { n = n; ask = audit }) t refl refl
+
+pub write-leaves : (n : ℕ) (t : Tables) (buffer : List ℕ) → after (record { n = n; ask = imageWrite buffer }) t ≡ t
+unfolding rule
+write-leaves n t buffer = leaves-tables (record { n = n; ask = imageWrite buffer }) t refl refl
+
+-- an edit on right tables is accepted where its stops, its cost and its link fit and it crowds no pair
+pub edit-taken : (n : ℕ) (k : Kind) (u v c : ℕ) (t : Tables) → upTo mostStops n ≡ true → sized n t ≡ true → right scale mostWays n t ≡ true →
+    validPair n u v ≡ true → costTests k c (entry n (t .cost) u v) Accepted ≡ Accepted → uncrowded mostWays n (edited k n u v c (t .cost)) ≡ true →
+    refusal (record { n = n; ask = edit k u v c }) t ≡ Accepted
+unfolding refusal rule
+edit-taken n k u v c t size lengths sound pair fits few = rw (size, lengths, sound, pair, few) fits
+
 -- an accepted image write has right tables, and answers with their image in front of the buffer
 module _ (n : ℕ) (t : Tables) (buffer : List ℕ) (ok : refusal (record { n = n; ask = imageWrite buffer }) t ≡ Accepted) where
   written-right : right scale mostWays n t ≡ true
-  unfolding refusal rule
-  written-right =
-      let (size, e₁) = need-true (upTo mostStops n) BadSize _ refl (ap accepted ok) in
-      let (lengths, e₂) = need-true (sized n t) BadLength _ refl e₁ in
-      need-true (right scale mostWays n t) BadTables _ refl e₂ .0
+  unfolding rule
+  written-right = audited (record { n = n; ask = imageWrite buffer }) t (ap accepted ok) refl
 
   written-length : answer (record { n = n; ask = imageWrite buffer }) t .length ≡ length (imageOf n (t .cost))
   unfolding answer reply rule

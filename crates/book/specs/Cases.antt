@@ -8,7 +8,8 @@ use lib.Dec.{eqb}
 use Rattle.routes.specs.Route.{mark, sumTo, joinTo, listTo, allTo, same, setOf, count, visits, uses, time, least, extend, hops, routes, leastTime, quickest, ways, through, portion, share, used, score}
 use Rattle.book.specs.Hall.{Tables, mostStops, largestCost, mostWays, scale, filled, sized, validCosts, uncrowded, right, touched, lowFirst, field, imageOf, validRecord, isImage, costsOf}
 use Rattle.book.specs.Call.{Call, Ask, emptyHall, edit, number, rule, Answer, reply, refusal, after, answer}
-use Rattle.book.specs.Book.{run, answers}
+use Rattle.book.specs.Book.{run, Step, kept}
+use Rattle.book.specs.Sequence.{stepsOf}
 use Rattle.book.specs.declared.Kind.the-variants.{Insert, Cheapen, Delete}
 
 -- document 01's numbers: the largest time, the bound of scores, the mark in 32 bits; 1 to 22 divide the scale, 23 does not
@@ -26,16 +27,16 @@ pub image-worked :
 unfolding sumTo joinTo listTo allTo lowFirst field imageOf validRecord isImage costsOf
 image-worked = (refl, refl, refl, refl)
 
--- an empty hall with n on tables full of sevens, then edits: the refusal and the touched rows of each, and the scores left
+-- an empty hall with n on tables full of sevens, then these calls: the refusal and the touched rows of each, and the scores left
 pub record Case : Type 0 where
   pub n : ℕ
-  pub edits : List Ask
+  pub asks : List Ask
   pub refusals : List ℕ
   pub rows : List ℕ
   pub scores : List ℕ
 
 abbrev pub case : ℕ → List Ask → List ℕ → List ℕ → List ℕ → Case
-case n edits refusals rows scores = record { n = n; edits = edits; refusals = refusals; rows = rows; scores = scores }
+case n asks refusals rows scores = record { n = n; asks = asks; refusals = refusals; rows = rows; scores = scores }
 
 abbrev pub sevens : ℕ → Tables
 sevens n =
@@ -43,12 +44,13 @@ sevens n =
     record { cost = square; time = square; ways = square; share = square; score = replicate n 7 }
 
 abbrev pub calls : Case → List Call
-calls c = map (λ a. record { n = c .n; ask = a }) (emptyHall ∷ c .edits)
+calls c = map (λ a. record { n = c .n; ask = a }) (emptyHall ∷ c .asks)
 
 unfoldable pub holds : Case → Bool
 holds c =
-    let said : List Answer = answers after answer (calls c) (sevens (c .n)) in
-    let scores : List ℕ = run after (calls c) (sevens (c .n)) .score in
+    let steps : List Step = stepsOf (calls c) (sevens (c .n)) in
+    let said : List Answer = map (λ s. s .answer) steps in
+    let scores : List ℕ = run kept steps (sevens (c .n)) .score in
     same (map (λ a. number (a .refusal)) said) (c .refusals) && (same (map (λ a. a .rows) said) (c .rows) && same scores (c .scores))
 
 -- the edits of document 01's example
@@ -73,6 +75,15 @@ cases =
     -- P8: a cost of 0 is told before an absent link
     case 2 (edit Cheapen 0 1 0 ∷ []) (0 ∷ 5 ∷ []) (0 ∷ 0 ∷ []) (0 ∷ 0 ∷ []) ∷ []
 
+-- the cost tables that an insert, a cheapen and a delete leave
+pub costs-left :
+    let left : List Ask → List ℕ = λ asks. run kept (stepsOf (calls (case 2 asks [] [] [])) (sevens 2)) (sevens 2) .cost in
+    (left (edit Insert 0 1 65535 ∷ []) ≡ 0 ∷ 65535 ∷ 0 ∷ 0 ∷ []) ×
+    (left (edit Insert 0 1 9 ∷ edit Insert 1 0 9 ∷ edit Cheapen 0 1 4 ∷ []) ≡ 0 ∷ 4 ∷ 9 ∷ 0 ∷ []) ×
+    (left (edit Insert 0 1 9 ∷ edit Insert 1 0 9 ∷ edit Delete 1 0 9 ∷ []) ≡ 0 ∷ 9 ∷ 0 ∷ 0 ∷ [])
+unfolding sumTo joinTo listTo allTo same setOf count visits uses time least extend hops routes leastTime quickest ways through portion share used score filled sized validCosts uncrowded right touched rule reply refusal after answer run stepsOf
+costs-left = (refl, refl, refl)
+
 pub cases-hold : map holds cases ≡ replicate 8 true
-unfolding holds sumTo joinTo listTo allTo same setOf count visits uses time least extend hops routes leastTime quickest ways through portion share used score filled sized validCosts uncrowded right touched rule reply refusal after answer run answers
+unfolding holds sumTo joinTo listTo allTo same setOf count visits uses time least extend hops routes leastTime quickest ways through portion share used score filled sized validCosts uncrowded right touched rule reply refusal after answer run stepsOf
 cases-hold = refl

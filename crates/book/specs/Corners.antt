@@ -38,9 +38,19 @@ damaged = lineTables 2 (0 ∷ scale ∷ 0 ∷ [])
 abbrev pub short : Tables
 short = lineTables 1 (0 ∷ scale ∷ [])
 
--- with a link from 0 to 2 that no quickest route uses
-abbrev pub besides : ℕ → Tables
-besides c = record { cost = 0 ∷ 1 ∷ c ∷ drop 3 lineCosts; time = line .time; ways = line .ways; share = line .share; score = line .score }
+-- its other four tables beside costs that have a link from 0 to 2 of cost c too
+abbrev pub direct : ℕ → Tables
+direct c = record { cost = 0 ∷ 1 ∷ c ∷ drop 3 lineCosts; time = line .time; ways = line .ways; share = line .share; score = line .score }
+
+-- its tables, each in turn an entry short
+abbrev pub shortOf : (cost time ways share : ℕ) → Tables
+shortOf cost time ways share = record {
+  cost = drop cost (line .cost);
+  time = drop time (line .time);
+  ways = drop ways (line .ways);
+  share = drop share (line .share);
+  score = line .score;
+}
 
 -- a call on tables, and its refusal
 pub record Corner : Type 0 where
@@ -68,25 +78,29 @@ abbrev pub corners : List Corner
 corners =
     -- empty hall: any content, but these lengths
     corner 3 damaged emptyHall 0 ∷ corner 3 short emptyHall 2 ∷ corner 2 line emptyHall 2 ∷ corner 65 line emptyHall 1 ∷
+    corner 3 (shortOf 1 0 0 0) emptyHall 2 ∷ corner 3 (shortOf 0 1 0 0) emptyHall 2 ∷ corner 3 (shortOf 0 0 1 0) emptyHall 2 ∷
+    corner 3 (shortOf 0 0 0 1) emptyHall 2 ∷
     -- work out: lengths before entries, and the lent content does not matter
     corner 3 damaged (workOut lineCosts) 0 ∷ corner 3 line (workOut (65536 ∷ [])) 2 ∷ corner 3 line (workOut (0 ∷ 65536 ∷ drop 2 lineCosts)) 5 ∷
     corner 3 line (workOut (0 ∷ 65535 ∷ drop 2 lineCosts)) 0 ∷ corner 3 line (workOut (1 ∷ drop 1 lineCosts)) 5 ∷ corner 0 line (workOut []) 1 ∷
     -- audit
     corner 3 line audit 0 ∷ corner 3 damaged audit 3 ∷ corner 3 short audit 2 ∷ corner 4 line audit 2 ∷ corner 3 (lineTables 1 (0 ∷ 0 ∷ 0 ∷ [])) audit 3 ∷
     -- a cost that no quickest route uses may differ, one that ties or improves may not
-    corner 3 (besides 5) audit 0 ∷ corner 3 (besides 6) audit 0 ∷ corner 3 (besides 2) audit 3 ∷ corner 3 (besides 1) audit 3 ∷
+    corner 3 (direct 5) audit 0 ∷ corner 3 (direct 6) audit 0 ∷ corner 3 (direct 2) audit 3 ∷ corner 3 (direct 1) audit 3 ∷
     -- edits: 3 before 4, 4 before 5, 5 before 6 and 7, 7 before 8; a delete's cost is not read
     corner 3 damaged (edit Insert 3 3 0) 3 ∷ corner 3 line (edit Insert 3 1 0) 4 ∷ corner 3 line (edit Insert 0 1 0) 5 ∷ corner 3 line (edit Insert 0 1 5) 6 ∷
+    corner 3 line (edit Insert 0 1 65536) 5 ∷ corner 3 line (edit Cheapen 0 2 65536) 5 ∷
     corner 3 line (edit Insert 0 2 5) 0 ∷ corner 3 line (edit Cheapen 0 2 4) 7 ∷ corner 3 line (edit Cheapen 0 1 1) 8 ∷ corner 3 line (edit Cheapen 0 1 0) 5 ∷
     corner 3 line (edit Delete 0 2 4) 7 ∷ corner 3 line (edit Delete 1 1 4) 4 ∷ corner 3 line (edit Delete 0 1 65536) 0 ∷ corner 3 short (edit Delete 0 1 1) 2 ∷
     -- image write: a buffer that fits, one byte short, and tables that do not belong to their hall
     corner 3 line (imageWrite (replicate 16 7)) 0 ∷ corner 3 line (imageWrite (replicate 15 7)) 10 ∷ corner 3 damaged (imageWrite (replicate 16 7)) 3 ∷
+    corner 3 damaged (imageWrite []) 3 ∷
     -- image read: the lent content does not matter; a missing byte, another n, equal records, cost 0
     corner 3 damaged (imageRead lineImage) 0 ∷ corner 3 short (imageRead lineImage) 2 ∷ corner 3 line (imageRead (drop 1 lineImage)) 9 ∷
     corner 3 line (imageRead (0 ∷ 1 ∷ 1 ∷ 0 ∷ 0 ∷ 1 ∷ drop 6 lineImage)) 9 ∷ corner 3 line (imageRead (0 ∷ 1 ∷ 0 ∷ drop 3 lineImage)) 9 ∷
     corner 3 line (imageRead (take 8 lineImage ++ (2 ∷ drop 9 lineImage))) 9 ∷ []
 
-pub corners-hold : map answersSo corners ≡ replicate 40 true
+pub corners-hold : map answersSo corners ≡ replicate 47 true
 unfolding answersSo sumTo joinTo listTo allTo same setOf count visits uses time least extend hops routes leastTime quickest ways through portion share used score filled sized validCosts uncrowded right touched lowFirst field imageOf validRecord isImage costsOf rule reply refusal after answer
 corners-hold = refl
 
@@ -96,6 +110,8 @@ unfolding sumTo joinTo listTo allTo same setOf count visits uses time least exte
 writes-so = (refl, refl)
 
 -- image check answers 0, 1 and 9
-pub checks-so : (number (imageCheck 3 lineImage) ≡ 0) × (number (imageCheck 65 lineImage) ≡ 1) × (number (imageCheck 3 (drop 4 lineImage)) ≡ 9)
+pub checks-so :
+    (number (imageCheck 3 lineImage) ≡ 0) × (number (imageCheck 65 lineImage) ≡ 1) × (number (imageCheck 0 (0 ∷ 1 ∷ replicate 6 0)) ≡ 1) ×
+    (number (imageCheck 3 (drop 4 lineImage)) ≡ 9)
 unfolding sumTo allTo field validRecord isImage imageCheck
-checks-so = (refl, refl, refl)
+checks-so = (refl, refl, refl, refl)

@@ -17,5 +17,6 @@ pub mod AuditLaws
 pub mod Edits
 pub mod Sequence
 pub mod CallLaws
+pub mod Answers
 pub mod Refused
 pub mod Bounded

@@ -30,6 +30,15 @@ passed c t e =
     let audits : Bool = rule (c .n) (c .ask) (t .cost) .audits in
     (size, lengths, need-true (not audits || right scale mostWays (c .n) t) BadTables _ refl e₂ .1)
 
+-- one that audits was lent right tables
+pub audited : (c : Call) (t : Tables) → accepted (refusal c t) ≡ true → rule (c .n) (c .ask) (t .cost) .audits ≡ true → right scale mostWays (c .n) t ≡ true
+unfolding refusal
+audited c t e audits =
+    let (size, e₁) = need-true (upTo mostStops (c .n)) BadSize _ refl e in
+    let (lengths, e₂) = need-true (sized (c .n) t) BadLength _ refl e₁ in
+    let (sound, e₃) = need-true (not (rule (c .n) (c .ask) (t .cost) .audits) || right scale mostWays (c .n) t) BadTables _ refl e₂ in
+    rw audits at sound
+
 -- the cost that an edit sets
 abbrev pub newCost : Kind → ℕ → ℕ
 newCost Insert c = c

@@ -1,13 +1,12 @@
 -- A refused call: nothing that it was lent differs after it, and it says its refusal alone. Assumes nothing.
-use Prim.Native.Nat.{ℕ, _^_}
+use Prim.Native.Nat.{ℕ}
 use mathlib.Core.Path.{_≡_, refl, sym, _∙_, ap}
-use mathlib.Core.Bool.{Bool, true, false, cond}
+use mathlib.Core.Bool.{true, false}
 use mathlib.Core.List.{List, []}
-use Rattle.routes.specs.Route.{sumTo, setOf}
-use Rattle.routes.specs.Sums.{sumTo-zero}
 use Rattle.book.specs.Hall.{Tables}
 use Rattle.book.specs.Call.{Ask, emptyHall, audit, workOut, edit, imageWrite, imageRead, Call, accepted, Rule, rule, Answer, reply, refusal, after, answer, Done}
 use Rattle.book.specs.Book.{Step, lent, kept}
+use Rattle.book.specs.Answers.{untouched}
 use Rattle.book.specs.Steps.{former}
 use Rattle.book.specs.declared.Refusal.{Refusal}
 
@@ -24,22 +23,9 @@ bufferOf (imageRead image) = []
 pub record Unchanged (c : Call) (t t′ : Tables) (a : Answer) : Type 0 where
   pub tables : t′ ≡ t
   pub set : a .touched ≡ 0
-  pub number : a .rows ≡ 0
-  pub written : a .length ≡ 0
+  pub count : a .rows ≡ 0
+  pub length : a .length ≡ 0
   pub buffer : a .buffer ≡ bufferOf (c .ask)
-
--- a set of no source is 0, and so is its number
-pub untouched : (n : ℕ) (r : Refusal) (p : ℕ → Bool) → ((s : ℕ) → p s ≡ false) → (k : ℕ) (b : List ℕ) →
-    _≡_ {A = Answer} (record { refusal = r; touched = setOf n p; rows = sumTo n (λ s. cond (p s) 1 0); length = k; buffer = b })
-    (record { refusal = r; touched = 0; rows = 0; length = k; buffer = b })
-unfolding setOf
-untouched n r p h k b = λ i. record {
-  refusal = r;
-  touched = sumTo-zero n {f = λ s. cond (p s) (2 ^ s) 0} (λ s l. rw (h s)) i;
-  rows = sumTo-zero n {f = λ s. cond (p s) 1 0} (λ s l. rw (h s)) i;
-  length = k;
-  buffer = b;
-}
 
 reply-refused : (n : ℕ) (r : Refusal) (x : Rule) → accepted r ≡ false →
     reply n r x ≡ record { refusal = r; touched = 0; rows = 0; length = 0; buffer = x .buffer }
@@ -80,8 +66,8 @@ refused-unchanged c t t′ a d closed =
     record {
       tables = d .left ∙ rw same;
       set = ap (λ a. a .touched) said;
-      number = ap (λ a. a .rows) said;
-      written = ap (λ a. a .length) said;
+      count = ap (λ a. a .rows) said;
+      length = ap (λ a. a .length) said;
       buffer = ap (λ a. a .buffer) said;
     }
 
@@ -94,4 +80,4 @@ refused-done c t r e f = record { left = rw (e, f); answered = sym (refused-answ
 pub refused-kept : (s : Step) (t : Tables) → Done (s .call) (lent (s .call .ask) t) (s .left) (s .answer) → accepted (s .answer .refusal) ≡ false → kept s t ≡ t
 refused-kept s t d closed =
     let same = refused-unchanged (s .call) (lent (s .call .ask) t) (s .left) (s .answer) d closed .tables in
-    rw (closed, same) (former t (s .call .ask))
+    rw (closed, same) (former (s .call .ask) t)

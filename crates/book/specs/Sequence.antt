@@ -8,7 +8,7 @@ use lib.ListN.{replicate}
 use borrow.Author.Tests.{eq-eqb}
 use Rattle.book.specs.Hall.{Tables, mostStops, scale, upTo, filled, sized}
 use Rattle.book.specs.Call.{Ask, Call, emptyHall, workOut, edit, rule, Answer, reply, refusal, after, answer, Done}
-use Rattle.book.specs.Book.{Book, bookAfter, bookAnswer, bookRefusal, noLinks, run, answers, Step, callsOf, lent, kept, Sequence, Started, Edited, Demand3}
+use Rattle.book.specs.Book.{Book, bookAfter, bookAnswer, bookRefusal, noLinks, run, bookAnswers, Step, callsOf, lent, kept, Sequence, Started, Edited, Demand3}
 use Rattle.book.specs.declared.Kind.{Kind}
 use Rattle.book.specs.declared.Refusal.the-variants.{Accepted, BadTables}
 use Rattle.book.specs.Filled.{sized-filled}
@@ -28,8 +28,8 @@ run-made (s ∷ rest) b h (d, made) =
 
 -- and its answers are the book's
 answers-made : (steps : List Step) (b : Book) → Held (b .stops) (b .links) → Sequence (tablesOf b) steps →
-    map (λ s. s .answer) steps ≡ answers bookAfter bookAnswer (callsOf steps) b
-unfolding answers Sequence
+    map (λ s. s .answer) steps ≡ bookAnswers (callsOf steps) b
+unfolding bookAnswers Sequence
 answers-made [] b h made = refl
 answers-made (s ∷ rest) b h (d, made) =
     ap₂ _∷_ (answer-made s b h d)
@@ -81,11 +81,18 @@ unfolding Demand3
 demand3 N start steps from made = (
   at-end N start from steps made .0,
   answers-made steps (noLinks N) (held-first N start from) (subst (λ t. Sequence t steps) (start-book N start from) made),
-  λ front′ rest s k u v x split asked ok.
-      let (before, d) = front front′ s rest start (subst (Sequence start) split made) in
-      of-books N start from (λ t. Done (s .call) (lent (s .call .ask) t) (s .left) (s .answer) → Edited (s .call .n) u v t (s .left) (s .answer)) front′ before
-      (λ links h d. edited-made s (record { stops = N; links = links }) k u v x h asked d ok) d,
+  λ before rest s k u v c split asked ok.
+      let (part, d) = front before s rest start (subst (Sequence start) split made) in
+      of-books N start from (λ t. Done (s .call) (lent (s .call .ask) t) (s .left) (s .answer) → Edited (s .call .n) u v t (s .left) (s .answer)) before part
+      (λ links h d. edited-made s (record { stops = N; links = links }) k u v c h asked d ok) d,
 )
+
+-- a work out as its contract has it, on its own cost table beside four of the five, is a step from the five
+pub work-out-step : (n : ℕ) (cost : List ℕ) (t t′ : Tables) (a : Answer) →
+    Done (record { n = n; ask = workOut cost }) (record { cost = cost; time = t .time; ways = t .ways; share = t .share; score = t .score }) t′ a →
+    Sequence t (record { call = record { n = n; ask = workOut cost }; left = t′; answer = a } ∷ [])
+unfolding Sequence
+work-out-step n cost t t′ a d = (d, tt)
 
 -- every N from 1 to 64 has such tables to start from, and every list of calls such a sequence
 pub sequence-starts : (N : ℕ) (found : Tables) → upTo mostStops N ≡ true → sized N found ≡ true →

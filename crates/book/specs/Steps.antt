@@ -10,7 +10,7 @@ use borrow.Author.Tests.{eqb-true, eq-eqb}
 use Rattle.routes.specs.Booleans.{both}
 use Rattle.book.specs.Hall.{Tables, mostStops, largestCost, mostWays, scale, upTo, entry, filled, sized, validPair, validCosts, uncrowded, right, imageOf, isImage, costsOf}
 use Rattle.book.specs.Call.{Ask, emptyHall, audit, workOut, edit, imageWrite, imageRead, Call, number, accepted, need, costTests, waysTest, edited, Rule, rule, reply, refusal, after, answer, Done}
-use Rattle.book.specs.Book.{Book, bookRefusal, bookAfter, bookAnswer, Step, lent, kept}
+use Rattle.book.specs.Book.{Book, bookRefusal, bookAfter, bookAnswer, Step, costLent, costKept, withCost, lent, kept}
 use Rattle.book.specs.declared.Kind.{Kind}
 use Rattle.book.specs.declared.Kind.the-variants.{Insert, Cheapen, Delete}
 use Rattle.book.specs.declared.Refusal.{Refusal}
@@ -19,7 +19,7 @@ use Rattle.book.specs.TableLaws.{entry-set, valid-set}
 use Rattle.book.specs.ImageLaws.{length-read, read-valid}
 use Rattle.book.specs.NoLinks.{valid-none, uncrowded-none}
 use Rattle.book.specs.Filled.{sized-beside, sized-filled, sized-cost, right-filled, right-true}
-use Rattle.book.specs.Passed.{need-true, newCost, Permitted, permitted}
+use Rattle.book.specs.Passed.{need-true, passed, audited, newCost, Permitted, permitted}
 
 -- what holds of a book's N and links at every point of a sequence
 pub record Held (n : ℕ) (cost : List ℕ) : Type 0 where
@@ -79,15 +79,10 @@ rule-held n (imageRead image) cost size h e =
 
 -- so it holds of the costs that any accepted call leaves, on any tables
 pub accepted-held : (c : Call) (t : Tables) → refusal c t ≡ Accepted → Held (c .n) (rule (c .n) (c .ask) (t .cost) .left)
-unfolding refusal
 accepted-held c t e =
-    let r : Rule = rule (c .n) (c .ask) (t .cost) in
-    let (size, e₁) = need-true (upTo mostStops (c .n)) BadSize _ refl (ap accepted e) in
-    let (lengths, e₂) = need-true (sized (c .n) t) BadLength _ refl e₁ in
-    let (sound, tests) = need-true (not (r .audits) || right scale mostWays (c .n) t) BadTables _ refl e₂ in
+    let (size, lengths, tests) = passed c t e in
     rule-held (c .n) (c .ask) (t .cost) size (λ audits.
-    let passes : right scale mostWays (c .n) t ≡ true = rw audits at sound in
-    let (valid, few, same) = right-true scale mostWays (c .n) t passes in
+    let (valid, few, same) = right-true scale mostWays (c .n) t (audited c t (ap accepted e) audits) in
     record { size = size; square = sized-cost (c .n) t lengths; valid = valid; few = few }) tests
 
 -- the tables of a book
@@ -182,12 +177,26 @@ rule-lent : (n : ℕ) (t : Tables) (ask : Ask) → rule n ask (lent ask t .cost)
 unfolding rule
 rule-lent n t = by-lent (λ ask t′. rule n ask (t′ .cost) ≡ rule n ask (t .cost)) t (λ ask. refl) (λ cost. refl)
 
--- what it was lent, with the former cost table, are the former five
-pub former : (t : Tables) (ask : Ask) →
-    _≡_ {A = Tables} (record { cost = t .cost; time = lent ask t .time; ways = lent ask t .ways; share = lent ask t .share; score = lent ask t .score }) t
-former t =
-    by-lent (λ ask t′. _≡_ {A = Tables} (record { cost = t .cost; time = t′ .time; ways = t′ .ways; share = t′ .share; score = t′ .score }) t) t
-    (λ ask. refl) (λ cost. refl)
+-- after an accepted call the cost table is the one that it left, after a refused one the former
+kept-taken : (ask : Ask) (left old : List ℕ) → costKept ask true left old ≡ left
+kept-taken emptyHall left old = refl
+kept-taken audit left old = refl
+kept-taken (workOut cost) left old = refl
+kept-taken (edit k u v c) left old = refl
+kept-taken (imageWrite buffer) left old = refl
+kept-taken (imageRead image) left old = refl
+
+kept-refused : (ask : Ask) (old : List ℕ) → costKept ask false (costLent ask old) old ≡ old
+kept-refused emptyHall old = refl
+kept-refused audit old = refl
+kept-refused (workOut cost) old = refl
+kept-refused (edit k u v c) old = refl
+kept-refused (imageWrite buffer) old = refl
+kept-refused (imageRead image) old = refl
+
+-- so the five after a refused call, which left what it was lent, are the former five
+pub former : (ask : Ask) (t : Tables) → withCost (costKept ask false (lent ask t .cost) (t .cost)) (lent ask t) ≡ t
+former ask t = ap (λ cost. withCost cost t) (kept-refused ask (t .cost))
 
 -- a call that was made on the tables of a book: its answer is the book's, and the five after it are those of the book after it
 module _ (s : Step) (b : Book) (h : Held (b .stops) (b .links))
@@ -206,14 +215,11 @@ module _ (s : Step) (b : Book) (h : Held (b .stops) (b .links))
       left : List ℕ
       left = rule (s .call .n) (s .call .ask) (b .links) .left
 
-      five : Tables → List ℕ → Tables
-      five t cost = record { cost = cost; time = t .time; ways = t .ways; share = t .share; score = t .score }
-
       go : (x : Bool) → accepted (bookRefusal (s .call) b) ≡ x →
           let t′ : Tables = cond x (filled scale (s .call .n) left) (lent (s .call .ask) (tablesOf b)) in
-          five t′ (cond x (t′ .cost) (b .links)) ≡ filled scale (b .stops) (cond x left (b .links))
-      go true e = ap (λ n. filled scale n left) (accepted-book (s .call) b e .0)
-      go false e = former (tablesOf b) (s .call .ask)
+          withCost (costKept (s .call .ask) x (t′ .cost) (b .links)) t′ ≡ filled scale (b .stops) (cond x left (b .links))
+      go true e = ap (λ cost. withCost cost (filled scale (s .call .n) left)) (kept-taken (s .call .ask) left (b .links)) ∙ ap (λ n. filled scale n left) (accepted-book (s .call) b e .0)
+      go false e = former (s .call .ask) (tablesOf b)
 
 -- an answer other than 3
 record Other (r : Refusal) : Type 0 where

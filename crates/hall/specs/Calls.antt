@@ -10,7 +10,8 @@ use Rattle.routes.specs.Route.{sumTo, setOf}
 use Rattle.book.specs.Hall.{Tables, mostStops, mostWays, scale, upTo, filled, sized, right}
 use Rattle.book.specs.Filled.{right-true}
 use Rattle.book.specs.Call.{Call, audit, Answer, accepted, need, plain, rule, reply, refusal, after, answer, Done}
-use Rattle.book.specs.Refused.{bufferOf, untouched, refused-done}
+use Rattle.book.specs.Answers.{reply-plain}
+use Rattle.book.specs.Refused.{bufferOf, refused-done}
 use Rattle.book.specs.declared.Refusal.{Refusal}
 use Rattle.book.specs.declared.Refusal.the-variants.{Accepted, BadSize, BadLength, BadTables}
 use Rattle.hall.specs.Promise.{says}
@@ -43,15 +44,6 @@ lengths n t e =
     let (c, e₃) = and-eq-true-iff (square (t .ways)) _ .0 e₂ in
     let (d, f) = and-eq-true-iff (square (t .share)) (eqb (length (t .score)) n) .0 e₃ in
     record { costs = eqb-true _ _ a; times = eqb-true _ _ b; counts = eqb-true _ _ c; shares = eqb-true _ _ d; scores = eqb-true _ _ f }
-
--- a call that is plain says its refusal alone
-reply-plain : (n : ℕ) (r : Refusal) (a : Bool) (tests : Refusal) (left : List ℕ) → reply n r (plain a tests left) ≡ says r
-unfolding reply
-reply-plain n r a tests left = go (accepted r)
-  where
-    go : (b : Bool) → _≡_ {A = Answer} (record { refusal = r; touched = setOf n (λ s. b && false); rows = sumTo n (λ s. cond (b && false) 1 0); length = length {A = ℕ} (cond b [] []); buffer = cond b [] [] ++ drop (length {A = ℕ} (cond b [] [])) [] }) (says r)
-    go true = untouched n r (λ s. false) (λ s. refl) 0 []
-    go false = untouched n r (λ s. false) (λ s. refl) 0 []
 
 module _ (c : Call) (t : Tables) where
   -- the first two tests

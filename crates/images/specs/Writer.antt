@@ -19,7 +19,8 @@ use Rattle.book.specs.ByteLaws.{stored as put}
 use Rattle.book.specs.WriterLaws.{linkRecord, recordsTo, linksTo, trailer, records-none, records-more, records-row, links-more, links-row, links-grow, length-record, length-records, length-image, trailer-stored}
 use Rattle.book.specs.Filled.{right-true}
 use Rattle.images.specs.ImagePromise.{linkBit, linkBytes, links, writes, stored, Wrote}
-use Rattle.book.specs.Refused.{untouched, refused-done}
+use Rattle.book.specs.Answers.{untouched}
+use Rattle.book.specs.Refused.{refused-done}
 use Rattle.hall.specs.Calls.{on-tables}
 
 -- the bytes of a number's low half and of its high half are its four bytes
