@@ -2,7 +2,7 @@
 // The other modules are the work below the calls, which edits and images share.
 pub mod audit;
 pub mod code;
-pub mod costs;
+mod costs;
 pub mod empty;
 pub mod limits;
 pub mod places;

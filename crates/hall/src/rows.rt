@@ -20,7 +20,7 @@ pub fn everyone(n: usize) -> u64
 }
 
 // Works out row s over the links of the masks. Says whether some pair has too many ways.
-pub fn renew(
+fn renew(
     n: usize,
     s: usize,
     cost: &[u32],

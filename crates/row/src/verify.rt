@@ -157,9 +157,9 @@ fn push(limit: u32, scale: u64, w: u32, x: u64) -> u64
 
 // What the links out of one stop give: the flow back over the tight ones, and whether one of them, or of the stops before,
 // improves a time.
-pub struct Scanned {
-    pub flow: u64,
-    pub bad: bool,
+struct Scanned {
+    flow: u64,
+    bad: bool,
 }
 
 // Goes over the links from u to the stops of a set, and adds the ways of u at the ends of the tight ones.
