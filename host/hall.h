@@ -171,12 +171,12 @@ typedef struct {
 /* The ten arguments for the tables of t, a hall_tables or another struct with
  * such fields: hall_insert(t.n, from, to, c, HALL_TABLES(t)). It evaluates t
  * more than once. */
-#define HALL_TABLES(t)                   \
-    (t).cost, (size_t)((t).n * (t).n),   \
-    (t).time, (size_t)((t).n * (t).n),   \
-    (t).ways, (size_t)((t).n * (t).n),   \
-    (t).share, (size_t)((t).n * (t).n),  \
-    (t).score, (size_t)(t).n
+#define HALL_TABLES(t)          \
+    (t).cost, (t).n * (t).n,    \
+    (t).time, (t).n * (t).n,    \
+    (t).ways, (t).n * (t).n,    \
+    (t).share, (t).n * (t).n,   \
+    (t).score, (t).n
 
 /* Fills all five tables for a hall without links. Refusals 1, 2. */
 uint32_t hall_empty(uint64_t n,
