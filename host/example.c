@@ -30,9 +30,9 @@ static const char *words(uint32_t refusal)
 /* The host owns the tables: one block for those of 32 bits, one for those of 64. */
 static hall_tables make_tables(uint64_t n)
 {
-    size_t cells = (size_t)(n * n);
+    size_t cells = n * n;
     uint32_t *narrow = (uint32_t *)malloc(3 * cells * sizeof *narrow);
-    uint64_t *wide = (uint64_t *)malloc((cells + (size_t)n) * sizeof *wide);
+    uint64_t *wide = (uint64_t *)malloc((cells + n) * sizeof *wide);
     hall_tables t;
 
     if (!narrow || !wide) {
@@ -126,9 +126,9 @@ static int small_hall(void)
     /* The image check takes n last. */
     w = image_write(&hall, image, sizeof image);
     printf("image write: %" PRIu32 " %s, %" PRIu64 " bytes\n", w.refusal, words(w.refusal), w.length);
-    print_call("image check", hall_image_check(image, (size_t)w.length, hall.n));
-    print_call("image check, 5 stops", hall_image_check(image, (size_t)w.length, 5));
-    print_call("image read", image_read(&copy, image, (size_t)w.length));
+    print_call("image check", hall_image_check(image, w.length, hall.n));
+    print_call("image check, 5 stops", hall_image_check(image, w.length, 5));
+    print_call("image read", image_read(&copy, image, w.length));
     same = memcmp(hall.score, copy.score, 4 * sizeof *hall.score) == 0;
     printf("read back: %s\n", same ? "same scores" : "OTHER SCORES");
 

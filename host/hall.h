@@ -19,12 +19,16 @@
  * Linux with 64-bit pointers (the System V calling convention) and runs on
  * every such processor. It is position independent, so it goes into programs
  * with -pie, -no-pie or -static and into shared objects. Of the C library it
- * needs memcpy and memset, and nothing else. It has no variables of its own,
- * starts nothing, calls nothing back and leaves errno alone.
+ * needs memcpy and memset (tried with glibc), and nothing else. It has no
+ * variables, no unwind tables and no debug data; it starts nothing, calls
+ * nothing back and leaves errno alone.
  *
  * A call needs at most HALL_STACK bytes of stack, 96 KiB. Measured: image read
  * 83 KiB, work out 69 KiB, all others below 4 KiB; the rest is a margin, for the
  * dynamic linker at the first call among others.
+ *
+ * The library is proved; that this header fits it is not. `make -C host check`
+ * tries it.
  *
  *
  * MEMORY
@@ -47,8 +51,8 @@
  * - What is lent to one call must not overlap. No call finds an overlap: it is
  *   undefined behaviour, and the host may end with an illegal instruction.
  * - Each pointer must be aligned and lead to as many entries as its length
- *   says, even where the call will refuse. Else it is undefined behaviour;
- *   NULL with a length other than 0 is.
+ *   says, even where the call will refuse. Else, and so for NULL with a length
+ *   other than 0, it is undefined behaviour.
  * - NULL with length 0 is allowed everywhere, for tables, images and buffers,
  *   and is refused like any other length that does not fit.
  *
@@ -167,12 +171,12 @@ typedef struct {
 /* The ten arguments for the tables of t, a hall_tables or another struct with
  * such fields: hall_insert(t.n, from, to, c, HALL_TABLES(t)). It evaluates t
  * more than once. */
-#define HALL_TABLES(t)                   \
-    (t).cost, (size_t)((t).n * (t).n),   \
-    (t).time, (size_t)((t).n * (t).n),   \
-    (t).ways, (size_t)((t).n * (t).n),   \
-    (t).share, (size_t)((t).n * (t).n),  \
-    (t).score, (size_t)(t).n
+#define HALL_TABLES(t)          \
+    (t).cost, (t).n * (t).n,    \
+    (t).time, (t).n * (t).n,    \
+    (t).ways, (t).n * (t).n,    \
+    (t).share, (t).n * (t).n,   \
+    (t).score, (t).n
 
 /* Fills all five tables for a hall without links. Refusals 1, 2. */
 uint32_t hall_empty(uint64_t n,
