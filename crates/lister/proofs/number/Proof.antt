@@ -19,7 +19,9 @@ returns c =
     omega (arith, ones-le 0 (loop .loop .rest) (search needs))
 
 loop-again : tie.Need-loop-again Inv-loop μ-loop
-loop-again c = omega (arith, ones-step (c .before .loop .rest))
+loop-again c =
+    let loop : tie.At-loop Inv-loop μ-loop = search in
+    omega (arith, ones-step (loop .loop .rest))
 
 pub number-spec : {M : Type 1} → statement M
 number-spec =
