@@ -1,5 +1,5 @@
 -- Bounds of scores, times and ways, in the tables of every hall that a call accepts. Assumes nothing.
-use Prim.Native.Nat.{ℕ, _+_, _*_, _-_, _<_, _≤_}
+use Prim.Native.Nat.{ℕ, _*_, _-_, _<_, _≤_}
 use native.Mathlib.Nat.{mul-le-mul-right}
 use native.Mathlib.Omega.{arith}
 use mathlib.Core.Path.{_≡_, refl, sym, _∙_, ap, subst, subst⁻¹}
@@ -9,14 +9,14 @@ use mathlib.Core.List.{List}
 use lib.Dec.{ltb, leb}
 use lib.ListN.{length, getD, List·getD-eq-default}
 use borrow.Author.Tests.{leb-true, ltb-true, ltb-false}
-use Rattle.routes.specs.Route.{Costs, mark, listTo, allTo, leastTime, ways, share, score}
+use Rattle.routes.specs.Route.{Costs, mark, listTo, leastTime, ways, score}
 use Rattle.routes.specs.Sums.{all-true}
 use Rattle.routes.specs.Rows.{length-listTo, getD-listTo}
 use Rattle.routes.specs.Times.{least-bound}
 use Rattle.routes.specs.Flows.{flows}
 use Rattle.routes.specs.Bounds.{score-limit}
 use Rattle.book.specs.Hall.{Tables, mostStops, largestCost, mostWays, scale, entry, filled, uncrowded}
-use Rattle.book.specs.Call.{Call, Answer, rule, reply, refusal, after, answer, Done}
+use Rattle.book.specs.Call.{Call, Answer, reply, refusal, after, answer, Done}
 use Rattle.book.specs.Book.{Step, run, kept, Sequence, Started}
 use Rattle.book.specs.declared.Refusal.the-variants.{Accepted}
 use Rattle.book.specs.TableLaws.{entry-table, valid-costs}

@@ -20,7 +20,7 @@ use Rattle.book.specs.Filled.{sized-filled, sized-cost, right-filled, ri
 use Rattle.book.specs.Passed.{need-true, passed, audited, edit-alone}
 use Rattle.book.specs.NoLinks.{valid-none, uncrowded-none}
 use Rattle.book.specs.declared.Kind.{Kind}
-use Rattle.book.specs.declared.Refusal.the-variants.{Accepted, BadSize, BadLength, BadTables, BadStop, BadImage, TooManyWays}
+use Rattle.book.specs.declared.Refusal.the-variants.{Accepted, BadStop, BadImage, TooManyWays}
 
 -- every number of ways that a pair may have divides the scale
 pub whole : (k : ℕ) → 0 < k → k ≤ mostWays → k ∣ scale

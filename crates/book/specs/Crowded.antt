@@ -3,12 +3,12 @@
 -- Assumes nothing.
 use Prim.Native.Nat.{ℕ, _-_}
 use mathlib.Core.Path.{_≡_, refl}
-use mathlib.Core.Bool.{Bool, true, cond, not, _&&_, _||_}
+use mathlib.Core.Bool.{true, cond, not, _&&_, _||_}
 use mathlib.Core.List.{List, [], _∷_, _++_, map}
 use lib.ListN.{replicate, take, drop}
 use lib.Dec.{eqb}
 use Rattle.routes.specs.Route.{sumTo, joinTo, listTo, allTo, same, setOf, count, visits, uses, time, least, extend, hops, routes, leastTime, quickest, ways, through, portion, share, used, score}
-use Rattle.book.specs.Hall.{mostWays, scale, table, entry, filled, sized, validCosts, uncrowded, right, touched, lowFirst, field, imageOf, validRecord, isImage, costsOf}
+use Rattle.book.specs.Hall.{mostWays, table, entry, filled, sized, validCosts, uncrowded, right, touched, lowFirst, field, imageOf, validRecord, isImage, costsOf}
 use Rattle.book.specs.Call.{audit, workOut, edit, imageRead, number, rule, reply, refusal, after, answer, imageCheck}
 use Rattle.book.specs.Book.{run}
 use Rattle.book.specs.Sequence.{stepsOf}

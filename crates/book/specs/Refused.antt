@@ -1,7 +1,7 @@
 -- A refused call: nothing that it was lent differs after it, and it says its refusal alone. Assumes nothing.
 use Prim.Native.Nat.{ℕ}
 use mathlib.Core.Path.{_≡_, refl, sym, _∙_, ap}
-use mathlib.Core.Bool.{true, false}
+use mathlib.Core.Bool.{false}
 use mathlib.Core.List.{List, []}
 use Rattle.book.specs.Hall.{Tables}
 use Rattle.book.specs.Call.{Ask, emptyHall, audit, workOut, edit, imageWrite, imageRead, Call, accepted, Rule, rule, Answer, reply, refusal, after, answer, Done}

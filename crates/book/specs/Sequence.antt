@@ -7,8 +7,8 @@ use mathlib.Core.List.{List, [], _∷_, _++_, map}
 use lib.ListN.{replicate}
 use borrow.Author.Tests.{eq-eqb}
 use Rattle.book.specs.Hall.{Tables, mostStops, scale, upTo, filled, sized}
-use Rattle.book.specs.Call.{Ask, Call, emptyHall, workOut, edit, rule, Answer, reply, refusal, after, answer, Done}
-use Rattle.book.specs.Book.{Book, bookAfter, bookAnswer, bookRefusal, noLinks, run, bookAnswers, Step, callsOf, lent, kept, Sequence, Started, Edited, Demand3}
+use Rattle.book.specs.Call.{Call, emptyHall, workOut, edit, rule, Answer, reply, refusal, after, answer, Done}
+use Rattle.book.specs.Book.{Book, bookAfter, bookAnswer, noLinks, run, bookAnswers, Step, callsOf, lent, kept, Sequence, Started, Edited, Demand3}
 use Rattle.book.specs.declared.Kind.{Kind}
 use Rattle.book.specs.declared.Refusal.the-variants.{Accepted, BadTables}
 use Rattle.book.specs.Filled.{sized-filled}

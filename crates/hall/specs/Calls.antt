@@ -1,15 +1,14 @@
 -- From the tests of a call to what it promises. Assumes nothing.
 use Prim.Native.Nat.{ℕ, _*_, _<_, _≤_}
 use mathlib.Core.Path.{_≡_, refl, sym, _∙_}
-use mathlib.Core.Bool.{Bool, true, false, cond, not, _&&_, _||_, and-eq-true-iff}
-use mathlib.Core.List.{List, [], _++_}
+use mathlib.Core.Bool.{Bool, true, false, not, _||_, and-eq-true-iff}
+use mathlib.Core.List.{List, []}
 use lib.Dec.{eqb, leb}
-use lib.ListN.{length, drop}
+use lib.ListN.{length}
 use borrow.Author.Tests.{eqb-true, leb-true, not-true, not-false}
-use Rattle.routes.specs.Route.{sumTo, setOf}
 use Rattle.book.specs.Hall.{Tables, mostStops, mostWays, scale, upTo, filled, sized, right}
 use Rattle.book.specs.Filled.{right-true}
-use Rattle.book.specs.Call.{Call, audit, Answer, accepted, need, plain, rule, reply, refusal, after, answer, Done}
+use Rattle.book.specs.Call.{Call, audit, accepted, need, plain, rule, refusal, after, answer, Done}
 use Rattle.book.specs.Answers.{reply-plain}
 use Rattle.book.specs.Refused.{bufferOf, refused-done}
 use Rattle.book.specs.declared.Refusal.{Refusal}

@@ -9,10 +9,8 @@ pub fn copy32(k: usize, from: &[u32], to: &mut [u32])
     requires { ⌜ (k ≤ length (now from)) × (k ≤ length (now to)) ⌝ }
     ensures { λ r. ⌜ now (to .exit) ≡ take k (now (from .entry)) ++ drop k (now (to .entry)) ⌝ }
 {
-    let mut i = 0;
-    while i < k {
+    for i in 0..k {
         to[i] = from[i];
-        i += 1;
     }
 }
 
@@ -20,9 +18,7 @@ pub fn copy64(k: usize, from: &[u64], to: &mut [u64])
     requires { ⌜ (k ≤ length (now from)) × (k ≤ length (now to)) ⌝ }
     ensures { λ r. ⌜ now (to .exit) ≡ take k (now (from .entry)) ++ drop k (now (to .entry)) ⌝ }
 {
-    let mut j = 0;
-    while j < k {
-        to[j] = from[j];
-        j += 1;
+    for i in 0..k {
+        to[i] = from[i];
     }
 }

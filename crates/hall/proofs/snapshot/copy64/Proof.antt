@@ -10,10 +10,10 @@ use Rattle.hall.proofs.snapshot.copy64.Statement.{statement}
 use Rattle.hall.proofs.snapshot.copy64.Tie as tie
 
 abbrev Inv-loop : tie.InvT-loop
-Inv-loop k from to₀ j₀ to j = (j ≤ k) × Stored (λ i. getD from i 0) j to₀ to
+Inv-loop k from to₀ i₀ to i = (i ≤ k) × Stored (λ j. getD from j 0) i to₀ to
 
 abbrev μ-loop : tie.MeasureT-loop
-μ-loop k from to₀ j₀ to j = k - j
+μ-loop k from to₀ i₀ to i = k - i
 
 pub copy64-spec : {M : Type 1} → statement M
 copy64-spec =
