@@ -7,7 +7,7 @@ use mathlib.Core.List.{List, [], _∷_, _++_, map}
 use lib.ListN.{replicate}
 use borrow.Author.Tests.{eq-eqb}
 use Rattle.book.specs.Hall.{Tables, mostStops, scale, upTo, filled, sized}
-use Rattle.book.specs.Call.{Call, emptyHall, workOut, edit, rule, Answer, reply, refusal, after, answer, Done}
+use Rattle.book.specs.Call.{Call, emptyHall, workOut, edit, rule, reply, refusal, after, answer, Done}
 use Rattle.book.specs.Book.{Book, bookAfter, bookAnswer, noLinks, run, bookAnswers, Step, callsOf, lent, kept, Sequence, Started, Edited, Demand3}
 use Rattle.book.specs.declared.Kind.{Kind}
 use Rattle.book.specs.declared.Refusal.the-variants.{Accepted, BadTables}
@@ -86,13 +86,6 @@ demand3 N start steps from made = (
       of-books N start from (λ t. Done (s .call) (lent (s .call .ask) t) (s .left) (s .answer) → Edited (s .call .n) u v t (s .left) (s .answer)) before part
       (λ links h d. edited-made s (record { stops = N; links = links }) k u v c h asked d ok) d,
 )
-
--- a work out as its contract has it, on its own cost table beside four of the five, is a step from the five
-pub work-out-step : (n : ℕ) (cost : List ℕ) (t t′ : Tables) (a : Answer) →
-    Done (record { n = n; ask = workOut cost }) (record { cost = cost; time = t .time; ways = t .ways; share = t .share; score = t .score }) t′ a →
-    Sequence t (record { call = record { n = n; ask = workOut cost }; left = t′; answer = a } ∷ [])
-unfolding Sequence
-work-out-step n cost t t′ a d = (d, tt)
 
 -- every N from 1 to 64 has such tables to start from, and every list of calls such a sequence
 pub sequence-starts : (N : ℕ) (found : Tables) → upTo mostStops N ≡ true → sized N found ≡ true →

@@ -3,14 +3,14 @@ use Prim.Native.Nat.{ℕ, _+_, _*_, _<_}
 use mathlib.Core.Path.{_≡_, refl, _∙_, ap, subst}
 use mathlib.Core.Logic.{_≢_}
 use mathlib.Core.Bool.{Bool, true, false, cond, not, _&&_, _||_, or-true}
-use mathlib.Core.List.{List}
+use mathlib.Core.List.{List, [], _∷_}
 use lib.Dec.{eqb, ltb, leb, lit<}
 use lib.ListN.{length, set, replicate, length-set, length-replicate}
 use borrow.Author.Tests.{eqb-true, eq-eqb}
 use Rattle.routes.specs.Booleans.{both}
 use Rattle.book.specs.Hall.{Tables, mostStops, largestCost, mostWays, scale, upTo, entry, filled, sized, validPair, validCosts, uncrowded, right, imageOf, isImage, costsOf}
-use Rattle.book.specs.Call.{Ask, emptyHall, audit, workOut, edit, imageWrite, imageRead, Call, number, accepted, need, costTests, waysTest, edited, Rule, rule, reply, refusal, after, answer, Done}
-use Rattle.book.specs.Book.{Book, bookRefusal, bookAfter, bookAnswer, Step, costLent, costKept, withCost, lent, kept}
+use Rattle.book.specs.Call.{Ask, emptyHall, audit, workOut, edit, imageWrite, imageRead, Call, number, accepted, need, costTests, waysTest, edited, Rule, rule, Answer, reply, refusal, after, answer, Done}
+use Rattle.book.specs.Book.{Book, bookRefusal, bookAfter, bookAnswer, Step, costLent, costKept, withCost, lent, kept, Sequence}
 use Rattle.book.specs.declared.Kind.{Kind}
 use Rattle.book.specs.declared.Kind.the-variants.{Insert, Cheapen, Delete}
 use Rattle.book.specs.declared.Refusal.{Refusal}
@@ -145,6 +145,13 @@ module _ (c : Call) (b : Book) where
             let (same, tests) = accepted-book e in
             subst (λ n. Held n left) same (rule-held (c .n) (c .ask) (b .links) (rw same (h .size)) (λ audits. rw same h) tests)
         go false e = h
+
+-- a work out as its contract has it, on its own cost table beside four of the five, is a step from the five
+pub work-out-step : (n : ℕ) (cost : List ℕ) (t t′ : Tables) (a : Answer) →
+    Done (record { n = n; ask = workOut cost }) (record { cost = cost; time = t .time; ways = t .ways; share = t .share; score = t .score }) t′ a →
+    Sequence t (record { call = record { n = n; ask = workOut cost }; left = t′; answer = a } ∷ [])
+unfolding Sequence
+work-out-step n cost t t′ a d = (d, tt)
 
 -- of a work out the lengths of the five are tested with that of its cost table, in the book apart
 lengths-first : (x b : Bool) (next : Refusal) → need (b && x) BadLength (need b BadLength next) ≡ need x BadLength (need b BadLength next)
