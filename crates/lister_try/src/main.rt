@@ -1,6 +1,6 @@
 // Writes the lister's tables of four halls, and what the edits that make and change the first of them
-// touch. The stored output was worked out apart from the lister: the first three halls by hand, the
-// last by listing its routes in another program.
+// touch. The stored output was worked out apart from the lister: the first two halls by hand, the line
+// by formulas, the last by listing its routes in another program.
 ghost use Prim.Native.Nat.{_<_};
 
 // Writes a line: a name and the first `count` numbers of a table.
