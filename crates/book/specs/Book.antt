@@ -1,31 +1,38 @@
 -- The book of document 01, sequences of calls, and demand 3 as a type. Assumes nothing.
 use Prim.Native.Nat.{ℕ, _+_, _*_, _<_}
 use mathlib.Core.Path.{_≡_}
-use mathlib.Core.Bool.{Bool, cond, not, _&&_}
+use mathlib.Core.Bool.{Bool, true, cond, not, _&&_}
 use mathlib.Core.List.{List, [], _∷_, _++_, map}
 use lib.Dec.{eqb, ltb}
 use lib.ListN.{getD, replicate}
 use Rattle.routes.specs.Route.{sumTo, allTo, has}
-use Rattle.book.specs.Hall.{Tables, mostStops, scale, upTo, entry, filled, touched}
-use Rattle.book.specs.Call.{Ask, emptyHall, audit, workOut, edit, imageWrite, imageRead, Call, rule, Answer, accepted, need, reply, Done}
-use Rattle.book.specs.declared.Kind.{Kind}
+use Rattle.book.specs.Hall.{Tables, scale, entry, filled, touched}
+use Rattle.book.specs.Call.{emptyHall, edit, Call, Effect, stays, fills, Rule, rule, Answer, accepted, chain, reply, Done}
+use Rattle.book.specs.declared.Edit.{Edit}
 use Rattle.book.specs.declared.Refusal.{Refusal}
-use Rattle.book.specs.declared.Refusal.the-variants.{Accepted, BadSize, BadLength}
+use Rattle.book.specs.declared.Refusal.the-variants.{Accepted}
 
 -- the book (abstract state): N and the present links, as their cost table; it reads calls alone
 pub record Book : Type 0 where
   pub stops : ℕ
   pub links : List ℕ
 
+-- an effect on its links
+abbrev pub entered : Effect → List ℕ → List ℕ
+entered stays links = links
+entered (fills cost) links = cost
+
+-- a call is refused by the same tests: 2 if its n is not N or what it brings does not fit, 3 never
 unfoldable pub bookRefusal : Call → Book → Refusal
 bookRefusal c b =
-    need (upTo mostStops (c .n)) BadSize (need (eqb (c .n) (b .stops)) BadLength (rule (c .n) (c .ask) (b .links) .tests))
+    let r : Rule = rule (c .n) (c .ask) (b .links) in
+    chain (c .n) (r .fits && eqb (c .n) (b .stops)) true (r .tests)
 
 unfoldable pub bookAfter : Call → Book → Book
-bookAfter c b = record { stops = b .stops; links = cond (accepted (bookRefusal c b)) (rule (c .n) (c .ask) (b .links) .left) (b .links) }
+bookAfter c b = record { stops = b .stops; links = cond (accepted (bookRefusal c b)) (entered (rule (c .n) (c .ask) (b .links) .effect) (b .links)) (b .links) }
 
 unfoldable pub bookAnswer : Call → Book → Answer
-bookAnswer c b = reply (c .n) (bookRefusal c b) (rule (c .n) (c .ask) (b .links))
+bookAnswer c b = reply (c .n) (bookRefusal c b) (rule (c .n) (c .ask) (b .links) .says)
 
 -- the book at first: no links
 abbrev pub noLinks : ℕ → Book
@@ -51,38 +58,21 @@ pub record Step : Type 0 where
 abbrev pub callsOf : List Step → List Call
 callsOf steps = map (λ s. s .call) steps
 
--- the cost table that a call is lent: work out brings its own in place of theirs
-abbrev pub costLent : Ask → List ℕ → List ℕ
-costLent emptyHall present = present
-costLent audit present = present
-costLent (workOut cost) present = cost
-costLent (edit k u v c) present = present
-costLent (imageWrite buffer) present = present
-costLent (imageRead image) present = present
-
--- the one that stays after it: what it left, but after a refused work out the former one
-abbrev pub costKept : Ask → Bool → (left former : List ℕ) → List ℕ
-costKept emptyHall taken left former = left
-costKept audit taken left former = left
-costKept (workOut cost) taken left former = cond taken left former
-costKept (edit k u v c) taken left former = left
-costKept (imageWrite buffer) taken left former = left
-costKept (imageRead image) taken left former = left
-
--- the five tables with another cost table; what a call is lent of the five t, and what the five are after it
+-- the five tables with another cost table; what a call is lent of the five t, and what the five are after it: as it left them, but
+-- after a refused call the former cost table stays, so that the one that a work out brought goes (`kept-left`: no other brings one)
 abbrev pub withCost : List ℕ → Tables → Tables
 withCost cost t = record { cost = cost; time = t .time; ways = t .ways; share = t .share; score = t .score }
 
-abbrev pub lent : Ask → Tables → Tables
-lent ask t = withCost (costLent ask (t .cost)) t
+abbrev pub lent : Call → Tables → Tables
+lent c t = withCost (rule (c .n) (c .ask) (t .cost) .cost) t
 
 abbrev pub kept : Step → Tables → Tables
-kept s t = withCost (costKept (s .call .ask) (accepted (s .answer .refusal)) (s .left .cost) (t .cost)) (s .left)
+kept s t = withCost (cond (accepted (s .answer .refusal)) (s .left .cost) (t .cost)) (s .left)
 
 -- a sequence of calls from the five tables t: each is lent the five that the last one left, and does what its contract promises
 unfoldable pub Sequence : Tables → List Step → Type 0
 Sequence t [] = Unit {0}
-Sequence t (s ∷ rest) = Done (s .call) (lent (s .call .ask) t) (s .left) (s .answer) × Sequence (kept s t) rest
+Sequence t (s ∷ rest) = Done (s .call) (lent (s .call) t) (s .left) (s .answer) × Sequence (kept s t) rest
 
 -- some entry of source s in time, ways or share differs
 unfoldable pub changed : ℕ → Tables → Tables → ℕ → Bool
@@ -90,9 +80,9 @@ changed n t t′ s =
     not (allTo n (λ x. eqb (entry n (t .time) s x) (entry n (t′ .time) s x) && (eqb (entry n (t .ways) s x) (entry n (t′ .ways) s x) &&
     eqb (entry n (t .share) s x) (entry n (t′ .share) s x))))
 
--- an accepted edit of the link u to v, tables t before and t′ after; its set has 64 bits
-pub record Edited (n u v : ℕ) (t t′ : Tables) (a : Answer) : Type 0 where
-  pub names : (s : ℕ) → has (a .touched) s ≡ (ltb s n && touched n (t .cost) (t′ .cost) u v s)
+-- an accepted edit, tables t before and t′ after; its set has 64 bits
+pub record EditFacts (n : ℕ) (e : Edit) (t t′ : Tables) (a : Answer) : Type 0 where
+  pub names : (s : ℕ) → has (a .touched) s ≡ (ltb s n && touched n (t .cost) (t′ .cost) (e .u) (e .v) s)
   pub counts : a .rows ≡ sumTo 64 (λ s. cond (has (a .touched) s) 1 0)
   pub changes : (s : ℕ) → s < n → changed n t t′ s ≡ has (a .touched) s
   pub moves : (x : ℕ) → x < n →
@@ -111,5 +101,5 @@ unfoldable pub Demand3 : Type 0
 Demand3 = (N : ℕ) (start : Tables) (steps : List Step) → Started N start → Sequence start steps →
     (run kept steps start ≡ filled scale N (run bookAfter (callsOf steps) (noLinks N) .links)) ×
     (map (λ s. s .answer) steps ≡ bookAnswers (callsOf steps) (noLinks N)) ×
-    ((before rest : List Step) (s : Step) (k : Kind) (u v c : ℕ) → steps ≡ before ++ s ∷ rest → s .call .ask ≡ edit k u v c →
-    s .answer .refusal ≡ Accepted → Edited (s .call .n) u v (run kept before start) (s .left) (s .answer))
+    ((before rest : List Step) (s : Step) (e : Edit) → steps ≡ before ++ s ∷ rest → s .call .ask ≡ edit e →
+    s .answer .refusal ≡ Accepted → EditFacts (s .call .n) e (run kept before start) (s .left) (s .answer))

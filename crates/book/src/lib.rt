@@ -1,4 +1,7 @@
-// Definitions and laws of the hall's calls: see specs/. Here only the two enums that code and definitions share.
+// Definitions and laws of the hall's calls: see specs/ and proofs/. Here what code and definitions share: the refusals and their
+// numbers, an edit, the answers, and the limits of the hall.
+pub mod limits;
+pub mod number_of;
 
 // The answers of a call: document 01's eleven refusals, and acceptance. specs/Call.antt has their numbers.
 pub enum Refusal {
@@ -16,9 +19,30 @@ pub enum Refusal {
     TooManyWays,
 }
 
-// The edits of a link.
+// The kinds of edit of a link.
 pub enum Kind {
     Insert,
     Cheapen,
     Delete,
+}
+
+// An edit of the link u to v. A delete's cost is not read.
+pub struct Edit {
+    pub kind: Kind,
+    pub u: u64,
+    pub v: u64,
+    pub cost: u64,
+}
+
+// The answer of an edit: the set of touched sources, bit s for source s, and their number.
+pub struct EditAnswer {
+    pub refusal: Refusal,
+    pub touched: u64,
+    pub rows: u32,
+}
+
+// The answer of an image write, beside the buffer: the image's length.
+pub struct WriteAnswer {
+    pub refusal: Refusal,
+    pub length: usize,
 }

@@ -1,20 +1,19 @@
 // The tests of an edit's arguments, 4 to 8, and the cost that it sets.
+use book::Edit;
 use book::Kind;
 use book::Refusal;
-use hall::limits::Hall;
-use hall::places;
+use book::limits::Hall;
+use tables::places;
 ghost use mathlib.Core.Path.{_≡_};
 ghost use Prim.Native.Nat.{_*_, _≤_};
 ghost use lib.ListN.{length};
 ghost use Rattle.book.specs.Hall.{largestCost, upTo, validPair};
-ghost use Rattle.book.specs.Call.{costTests};
+ghost use Rattle.book.specs.Call.{costTests, editTests, costSet};
 ghost use Rattle.book.specs.declared.Kind.the-variants.{Insert, Cheapen, Delete};
 ghost use Rattle.book.specs.declared.Refusal.the-variants.{Accepted};
-ghost use Rattle.book.specs.Passed.{newCost};
-ghost use Rattle.edits.specs.EditPromise.{argumentTests};
 
 // Two different stops.
-fn two_stops(n: u64, u: u64, v: u64) -> bool
+fn is_pair(n: u64, u: u64, v: u64) -> bool
     ensures { λ r. ⌜ r ≡ validPair n u v ⌝ }
 {
     if n <= u {
@@ -27,7 +26,7 @@ fn two_stops(n: u64, u: u64, v: u64) -> bool
 }
 
 // A cost that a link may have.
-fn a_cost(c: u64) -> bool
+fn is_cost(c: u64) -> bool
     ensures { λ r. ⌜ r ≡ upTo largestCost c ⌝ }
 {
     if c == 0 {
@@ -39,7 +38,7 @@ fn a_cost(c: u64) -> bool
 fn permit_insert(c: u64, present: u32) -> Refusal
     ensures { λ r. ⌜ r ≡ costTests Insert c present Accepted ⌝ }
 {
-    if !a_cost(c) {
+    if !is_cost(c) {
         return Refusal::BadCost;
     }
     if present != 0 {
@@ -51,7 +50,7 @@ fn permit_insert(c: u64, present: u32) -> Refusal
 fn permit_cheapen(c: u64, present: u32) -> Refusal
     ensures { λ r. ⌜ r ≡ costTests Cheapen c present Accepted ⌝ }
 {
-    if !a_cost(c) {
+    if !is_cost(c) {
         return Refusal::BadCost;
     }
     if present == 0 {
@@ -72,15 +71,19 @@ fn permit_delete(c: u64, present: u32) -> Refusal
     Refusal::Accepted
 }
 
-pub fn permit(kind: Kind, n: u64, u: u64, v: u64, c: u64, cost: &[u32]) -> Refusal
+pub fn permit(n: u64, e: Edit, cost: &[u32]) -> Refusal
     requires { ⌜ (n ≤ 64) × (length (now cost) ≡ n * n) ⌝ }
-    ensures { λ r. ⌜ r ≡ argumentTests n kind u v c (now (cost .entry)) Accepted ⌝ }
+    ensures { λ r. ⌜ r ≡ editTests n e (now (cost .entry)) Accepted ⌝ }
 {
-    if !two_stops(n, u, v) {
+    let u = e.u;
+    let v = e.v;
+    if !is_pair(n, u, v) {
         return Refusal::BadStop;
     }
     let at = places::start(n as usize, u as usize) + v as usize;
     let present = cost[at];
+    let c = e.cost;
+    let kind = e.kind;
     match kind {
         Kind::Insert => permit_insert(c, present),
         Kind::Cheapen => permit_cheapen(c, present),
@@ -89,10 +92,12 @@ pub fn permit(kind: Kind, n: u64, u: u64, v: u64, c: u64, cost: &[u32]) -> Refus
 }
 
 // The cost that an edit sets: 0 where it deletes.
-pub fn new_cost(kind: Kind, c: u64) -> u32
-    requires { ⌜ newCost kind c ≤ largestCost ⌝ }
-    ensures { λ r. ⌜ r ≡ newCost kind c ⌝ }
+pub fn cost_set(e: Edit) -> u32
+    requires { ⌜ costSet (e .kind) (e .cost) ≤ largestCost ⌝ }
+    ensures { λ r. ⌜ r ≡ costSet (e .kind) (e .cost) ⌝ }
 {
+    let c = e.cost;
+    let kind = e.kind;
     match kind {
         Kind::Insert => c as u32,
         Kind::Cheapen => c as u32,

@@ -1,15 +1,15 @@
 // Which sources an edit touches, by one comparison a source on the times before it, and which links their rows need.
-use hall::limits::Hall;
-use hall::places;
-use row::masks::all_links;
-use row::masks::useful_links;
+use book::limits::Hall;
+use links::masks::all_links;
+use links::masks::useful_links;
+use tables::places;
 ghost use mathlib.Core.Path.{_≡_};
 ghost use mathlib.Core.Bool.{false};
 ghost use Prim.Native.Nat.{_*_, _<_, _≤_};
 ghost use lib.ListN.{length};
 ghost use Rattle.routes.specs.Route.{setOf};
 ghost use Rattle.book.specs.Hall.{entry};
-ghost use Rattle.edits.specs.EditPromise.{rises, crosses, Found, Chosen};
+ghost use Rattle.edits.specs.Promise.{rises, crosses, oneLink, Found, Chosen};
 
 // Whether a link goes or its cost rises, not comes or falls.
 pub fn dearer(old: u32, new: u32) -> bool
@@ -24,8 +24,8 @@ pub fn dearer(old: u32, new: u32) -> bool
     old < new
 }
 
-// Whether a link from a stop at time near to one at time far is on a quickest route.
-fn on_route(up: bool, old: u32, new: u32, near: u32, far: u32) -> bool
+// Whether a quickest route crosses a link from a stop at time near to one at time far.
+fn link_crosses(up: bool, old: u32, new: u32, near: u32, far: u32) -> bool
     ensures { λ r. ⌜ r ≡ crosses up old new near far ⌝ }
 {
     if near == Hall::MARK {
@@ -38,14 +38,14 @@ fn on_route(up: bool, old: u32, new: u32, near: u32, far: u32) -> bool
 }
 
 // The sources from which that holds.
-fn sources(n: usize, u: usize, v: usize, up: bool, old: u32, new: u32, time: &[u32]) -> u64
+fn touched_sources(n: usize, u: usize, v: usize, up: bool, old: u32, new: u32, time: &[u32]) -> u64
     requires { ⌜ (n ≤ 64) × (length (now time) ≡ n * n) × (u < n) × (v < n) ⌝ }
     ensures { λ r. ⌜ r ≡ setOf n (λ s. crosses up old new (entry n (now (time .entry)) s u) (entry n (now (time .entry)) s v)) ⌝ }
 {
     let mut set = 0u64;
     for s in 0..n {
         let at = places::start(n, s);
-        if on_route(up, old, new, time[at + u], time[at + v]) {
+        if link_crosses(up, old, new, time[at + u], time[at + v]) {
             set |= 1u64 << (s as u64);
         }
     }
@@ -58,7 +58,7 @@ pub fn touched_set(n: usize, u: usize, v: usize, new: u32, cost: &[u32], time: &
     ensures { λ r. ⌜ Found n u v new (now (cost .entry)) (now (time .entry)) r ⌝ }
 {
     let old = cost[places::start(n, u) + v];
-    sources(n, u, v, dearer(old, new), old, new, time)
+    touched_sources(n, u, v, dearer(old, new), old, new, time)
 }
 
 // All links, or those that cost the time between their ends and the link u to v.
@@ -73,7 +73,7 @@ pub fn choose_links(
 )
     requires { ⌜ (n ≤ 64) × (length (now cost) ≡ n * n) × (length (now time) ≡ n * n) × (u < n) × (v < n) ⌝ }
     requires { ⌜ (all ≡ false → 0 < entry n (now cost) u v) ⌝ }
-    ensures { λ r. ⌜ Chosen n u v all (now (cost .entry)) (now (time .entry)) (now (out .exit)) ⌝ }
+    ensures { λ r. ⌜ Chosen n (oneLink u v) all (now (cost .entry)) (now (time .entry)) (now (out .exit)) ⌝ }
 {
     if all {
         all_links(n, cost, out);

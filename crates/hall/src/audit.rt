@@ -1,10 +1,11 @@
 // Audit: whether five tables are those of their hall.
-use super::limits::Hall;
-use super::places;
-use super::sound;
+use super::door::door;
 use book::Refusal;
+use book::limits::Hall;
+use book::number_of::passes;
+use tables::right;
 ghost use Rattle.book.specs.Call.{audit, Done};
-ghost use Rattle.hall.specs.Promise.{tables, says};
+ghost use Rattle.book.specs.Contract.{found, ofRefusal};
 
 pub fn audit(
     n: u64,
@@ -14,20 +15,22 @@ pub fn audit(
     share: &[u64],
     score: &[u64],
 ) -> Refusal
-    ensures { λ r. ⌜
-        Done (record { n = n; ask = audit })
-        (tables (now (cost .entry)) (now (time .entry)) (now (ways .entry)) (now (share .entry)) (now (score .entry)))
-        (tables (now (cost .entry)) (now (time .entry)) (now (ways .entry)) (now (share .entry)) (now (score .entry))) (says r)
-        ⌝ }
+    ensures { λ r. ⌜ Done (record { n = n; ask = audit }) (found cost time ways share score) (found cost time ways share score) (ofRefusal r) ⌝ }
 {
-    if !Hall::takes(n) {
-        return Refusal::BadSize;
+    let verdict = door(n, cost, time, ways, share, score);
+    if !passes(verdict) {
+        return verdict;
     }
-    let k = n as usize;
-    if !places::sized(k, cost, time, ways, share, score) {
-        return Refusal::BadLength;
-    }
-    if !sound::sound(k, cost, time, ways, share, score) {
+    if !right::right(
+        Hall::WAYS,
+        Hall::SCALE,
+        n as usize,
+        cost,
+        time,
+        ways,
+        share,
+        score,
+    ) {
         return Refusal::BadTables;
     }
     Refusal::Accepted

@@ -1,13 +1,5 @@
-// The hall: its type, its limits, and the calls that fill or judge its tables: empty hall, work out and audit.
-// The other modules are the work below the calls, which edits and images share.
+// The calls that fill or judge a hall's tables: empty hall, work out and audit; and the door that every call on tables goes through.
 pub mod audit;
-pub mod code;
-mod costs;
-pub mod empty;
-pub mod limits;
-pub mod places;
-pub mod rows;
-pub mod scores;
-pub mod snapshot;
-pub mod sound;
-pub mod work;
+pub mod door;
+pub mod empty_hall;
+pub mod work_out;

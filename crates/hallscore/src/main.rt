@@ -1,14 +1,16 @@
 // Reads a text from standard input and writes its listing.
 use libc::STDIN_FILENO;
 use libc::STDOUT_FILENO;
+use listing::LONGEST;
+use listing::ROOM;
 
 // A byte more than the longest text that is read, and room for the listing of any text.
-fn input() -> [u8; 32769] {
-    [0; 32769]
+fn input() -> [u8; LONGEST + 1] {
+    [0; LONGEST + 1]
 }
 
-fn output() -> [u8; 430000] {
-    [0; 430000]
+fn output() -> [u8; ROOM] {
+    [0; ROOM]
 }
 
 fn main() {

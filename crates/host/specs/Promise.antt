@@ -1,33 +1,34 @@
--- What the C face promises: the call that it hands on, and document 01's number for its refusal. Assumes nothing.
+-- What the C face promises: the call that it hands on, and its answer in numbers. Assumes nothing.
 use Prim.Native.Nat.{ℕ}
-use mathlib.Core.Path.{_≡_, refl, _∙_, ap}
-use mathlib.Core.List.{List}
+use mathlib.Core.Path.{_≡_}
+use mathlib.Core.List.{List, []}
 use Rattle.book.specs.Hall.{Tables}
-use Rattle.book.specs.Call.{Call, Answer, number, after, answer, Done}
+use Rattle.book.specs.Call.{Call, Answer, number, after, answer}
+use Rattle.host.specs.declared.HallEdited.{HallEdited}
+use Rattle.host.specs.declared.HallWritten.{HallWritten}
 
--- a call did what document 01 says: the tables it left, the number of its refusal, and the rest of its answer
-pub record Handed (c : Call) (t t′ : Tables) (r touched rows length : ℕ) (buffer : List ℕ) : Type 0 where
+-- an answer with document 01's number for its refusal
+pub record Numbers : Type 0 where
+  pub refusal : ℕ
+  pub touched : ℕ
+  pub rows : ℕ
+  pub length : ℕ
+  pub buffer : List ℕ
+
+abbrev pub inNumbers : Answer → Numbers
+inNumbers a = record { refusal = number (a .refusal); touched = a .touched; rows = a .rows; length = a .length; buffer = a .buffer }
+
+-- the answers as the C face gives them: a refusal alone, an edit's, and an image write's with its buffer
+abbrev pub ofNumber : ℕ → Numbers
+ofNumber r = record { refusal = r; touched = 0; rows = 0; length = 0; buffer = [] }
+
+abbrev pub ofEdited : HallEdited → Numbers
+ofEdited a = record { refusal = a .refusal; touched = a .touched; rows = a .rows; length = 0; buffer = [] }
+
+abbrev pub ofWritten : HallWritten → List ℕ → Numbers
+ofWritten a buffer = record { refusal = a .refusal; touched = 0; rows = 0; length = a .length; buffer = buffer }
+
+-- a call did what document 01 says: the tables that it left, and its answer
+pub record Handed (c : Call) (t t′ : Tables) (x : Numbers) : Type 0 where
   pub left : t′ ≡ after c t
-  pub refusal : r ≡ number (answer c t .refusal)
-  pub set : touched ≡ answer c t .touched
-  pub number : rows ≡ answer c t .rows
-  pub written : length ≡ answer c t .length
-  pub bytes : buffer ≡ answer c t .buffer
-
--- it hands on what the call did
-pub handed : {c : Call} {t t′ : Tables} {a : Answer} {r touched rows length : ℕ} {buffer : List ℕ} → Done c t t′ a →
-    r ≡ number (a .refusal) → touched ≡ a .touched → rows ≡ a .rows → length ≡ a .length → buffer ≡ a .buffer →
-    Handed c t t′ r touched rows length buffer
-handed d refused set counted written bytes = record {
-  left = d .left;
-  refusal = refused ∙ ap (λ a. number (a .refusal)) (d .answered);
-  set = set ∙ ap (λ a. a .touched) (d .answered);
-  number = counted ∙ ap (λ a. a .rows) (d .answered);
-  written = written ∙ ap (λ a. a .length) (d .answered);
-  bytes = bytes ∙ ap (λ a. a .buffer) (d .answered);
-}
-
--- so a call through the C face is a step of demand 3, and what it gives are the parts of its answer
-pub handed-done : {c : Call} {t t′ : Tables} {r touched rows length : ℕ} {buffer : List ℕ} → Handed c t t′ r touched rows length buffer →
-    (a : Answer) × Done c t t′ a × (r ≡ number (a .refusal)) × (touched ≡ a .touched) × (rows ≡ a .rows) × (length ≡ a .length) × (buffer ≡ a .buffer)
-handed-done {c} {t} h = (answer c t, record { left = h .left; answered = refl }, h .refusal, h .set, h .number, h .written, h .bytes)
+  pub said : x ≡ inNumbers (answer c t)

@@ -1,22 +1,20 @@
 // The C face of the hall: each call over pointers and lengths, with document 01's number for its refusal.
 // The header is host/hall.h.
-use edits::Edited;
-use edits::cheapen;
-use edits::delete;
-use edits::insert;
+use book::Edit;
+use book::Kind;
+use book::number_of::number_of;
+use edits::edit::edit;
 use hall::audit::audit;
-use hall::code::code;
-use hall::empty::empty_hall;
-use hall::work::work_out;
+use hall::empty_hall::empty_hall;
+use hall::work_out::work_out;
 use images::image_check::image_check;
 use images::image_read::image_read;
 use images::image_write::image_write;
 ghost use mathlib.Core.Path.{_≡_};
-ghost use mathlib.Core.List.{[]};
 ghost use Rattle.book.specs.Call.{emptyHall, workOut, audit, edit, imageWrite, imageRead, number, imageCheck};
+ghost use Rattle.book.specs.Contract.{found, left, leftBeside};
 ghost use Rattle.book.specs.declared.Kind.the-variants.{Insert, Cheapen, Delete};
-ghost use Rattle.hall.specs.Promise.{tables};
-ghost use Rattle.host.specs.Promise.{Handed};
+ghost use Rattle.host.specs.Promise.{Handed, ofNumber, ofEdited, ofWritten};
 
 // An edit's refusal, the number of touched sources, and their set.
 #[repr(C)]
@@ -42,13 +40,9 @@ pub extern "C" fn hall_empty(
     share: &mut [u64],
     score: &mut [u64],
 ) -> u32
-    ensures { λ r. ⌜
-        Handed (record { n = n; ask = emptyHall })
-        (tables (now (cost .entry)) (now (time .entry)) (now (ways .entry)) (now (share .entry)) (now (score .entry)))
-        (tables (now (cost .exit)) (now (time .exit)) (now (ways .exit)) (now (share .exit)) (now (score .exit))) r 0 0 0 []
-        ⌝ }
+    ensures { λ r. ⌜ Handed (record { n = n; ask = emptyHall }) (found cost time ways share score) (left cost time ways share score) (ofNumber r) ⌝ }
 {
-    code(empty_hall(n, cost, time, ways, share, score))
+    number_of(empty_hall(n, cost, time, ways, share, score))
 }
 
 #[no_mangle]
@@ -60,13 +54,9 @@ pub extern "C" fn hall_work_out(
     share: &mut [u64],
     score: &mut [u64],
 ) -> u32
-    ensures { λ r. ⌜
-        Handed (record { n = n; ask = workOut (now (cost .entry)) })
-        (tables (now (cost .entry)) (now (time .entry)) (now (ways .entry)) (now (share .entry)) (now (score .entry)))
-        (tables (now (cost .entry)) (now (time .exit)) (now (ways .exit)) (now (share .exit)) (now (score .exit))) r 0 0 0 []
-        ⌝ }
+    ensures { λ r. ⌜ Handed (record { n = n; ask = workOut (now (cost .entry)) }) (found cost time ways share score) (leftBeside cost time ways share score) (ofNumber r) ⌝ }
 {
-    code(work_out(n, cost, time, ways, share, score))
+    number_of(work_out(n, cost, time, ways, share, score))
 }
 
 #[no_mangle]
@@ -78,23 +68,38 @@ pub extern "C" fn hall_audit(
     share: &[u64],
     score: &[u64],
 ) -> u32
-    ensures { λ r. ⌜
-        Handed (record { n = n; ask = audit })
-        (tables (now (cost .entry)) (now (time .entry)) (now (ways .entry)) (now (share .entry)) (now (score .entry)))
-        (tables (now (cost .entry)) (now (time .entry)) (now (ways .entry)) (now (share .entry)) (now (score .entry))) r 0 0 0 []
-        ⌝ }
+    ensures { λ r. ⌜ Handed (record { n = n; ask = audit }) (found cost time ways share score) (found cost time ways share score) (ofNumber r) ⌝ }
 {
-    code(audit(n, cost, time, ways, share, score))
+    number_of(audit(n, cost, time, ways, share, score))
 }
 
-fn edited(e: Edited) -> HallEdited
-    ensures { λ r. ⌜ (r .refusal ≡ number (e .refusal)) × (r .rows ≡ e .rows) × (r .touched ≡ e .touched) ⌝ }
+// An edit of any kind.
+fn edited(
+    n: u64,
+    kind: Kind,
+    u: u64,
+    v: u64,
+    c: u64,
+    cost: &mut [u32],
+    time: &mut [u32],
+    ways: &mut [u32],
+    share: &mut [u64],
+    score: &mut [u64],
+) -> HallEdited
+    ensures { λ r. ⌜ Handed (record { n = n; ask = edit (record { kind = kind; u = u; v = v; cost = c }) }) (found cost time ways share score) (left cost time ways share score) (ofEdited r) ⌝ }
 {
-    let refusal = e.refusal;
+    let e = Edit {
+        kind,
+        u,
+        v,
+        cost: c,
+    };
+    let done = edit(n, e, cost, time, ways, share, score);
+    let refusal = done.refusal;
     HallEdited {
-        refusal: code(refusal),
-        rows: e.rows,
-        touched: e.touched,
+        refusal: number_of(refusal),
+        rows: done.rows,
+        touched: done.touched,
     }
 }
 
@@ -110,13 +115,9 @@ pub extern "C" fn hall_insert(
     share: &mut [u64],
     score: &mut [u64],
 ) -> HallEdited
-    ensures { λ r. ⌜
-        Handed (record { n = n; ask = edit Insert u v c })
-        (tables (now (cost .entry)) (now (time .entry)) (now (ways .entry)) (now (share .entry)) (now (score .entry)))
-        (tables (now (cost .exit)) (now (time .exit)) (now (ways .exit)) (now (share .exit)) (now (score .exit))) (r .refusal) (r .touched) (r .rows) 0 []
-        ⌝ }
+    ensures { λ r. ⌜ Handed (record { n = n; ask = edit (record { kind = Insert; u = u; v = v; cost = c }) }) (found cost time ways share score) (left cost time ways share score) (ofEdited r) ⌝ }
 {
-    edited(insert(n, u, v, c, cost, time, ways, share, score))
+    edited(n, Kind::Insert, u, v, c, cost, time, ways, share, score)
 }
 
 #[no_mangle]
@@ -131,13 +132,9 @@ pub extern "C" fn hall_cheapen(
     share: &mut [u64],
     score: &mut [u64],
 ) -> HallEdited
-    ensures { λ r. ⌜
-        Handed (record { n = n; ask = edit Cheapen u v c })
-        (tables (now (cost .entry)) (now (time .entry)) (now (ways .entry)) (now (share .entry)) (now (score .entry)))
-        (tables (now (cost .exit)) (now (time .exit)) (now (ways .exit)) (now (share .exit)) (now (score .exit))) (r .refusal) (r .touched) (r .rows) 0 []
-        ⌝ }
+    ensures { λ r. ⌜ Handed (record { n = n; ask = edit (record { kind = Cheapen; u = u; v = v; cost = c }) }) (found cost time ways share score) (left cost time ways share score) (ofEdited r) ⌝ }
 {
-    edited(cheapen(n, u, v, c, cost, time, ways, share, score))
+    edited(n, Kind::Cheapen, u, v, c, cost, time, ways, share, score)
 }
 
 #[no_mangle]
@@ -151,13 +148,9 @@ pub extern "C" fn hall_delete(
     share: &mut [u64],
     score: &mut [u64],
 ) -> HallEdited
-    ensures { λ r. ⌜
-        Handed (record { n = n; ask = edit Delete u v 0 })
-        (tables (now (cost .entry)) (now (time .entry)) (now (ways .entry)) (now (share .entry)) (now (score .entry)))
-        (tables (now (cost .exit)) (now (time .exit)) (now (ways .exit)) (now (share .exit)) (now (score .exit))) (r .refusal) (r .touched) (r .rows) 0 []
-        ⌝ }
+    ensures { λ r. ⌜ Handed (record { n = n; ask = edit (record { kind = Delete; u = u; v = v; cost = 0 }) }) (found cost time ways share score) (left cost time ways share score) (ofEdited r) ⌝ }
 {
-    edited(delete(n, u, v, cost, time, ways, share, score))
+    edited(n, Kind::Delete, u, v, 0, cost, time, ways, share, score)
 }
 
 #[no_mangle]
@@ -170,16 +163,12 @@ pub extern "C" fn hall_image_write(
     score: &[u64],
     buffer: &mut [u8],
 ) -> HallWritten
-    ensures { λ r. ⌜
-        Handed (record { n = n; ask = imageWrite (now (buffer .entry)) })
-        (tables (now (cost .entry)) (now (time .entry)) (now (ways .entry)) (now (share .entry)) (now (score .entry)))
-        (tables (now (cost .entry)) (now (time .entry)) (now (ways .entry)) (now (share .entry)) (now (score .entry))) (r .refusal) 0 0 (r .length) (now (buffer .exit))
-        ⌝ }
+    ensures { λ r. ⌜ Handed (record { n = n; ask = imageWrite (now (buffer .entry)) }) (found cost time ways share score) (found cost time ways share score) (ofWritten r (now (buffer .exit))) ⌝ }
 {
     let w = image_write(n, cost, time, ways, share, score, buffer);
     let refusal = w.refusal;
     HallWritten {
-        refusal: code(refusal),
+        refusal: number_of(refusal),
         length: w.length as u64,
     }
 }
@@ -194,13 +183,9 @@ pub extern "C" fn hall_image_read(
     share: &mut [u64],
     score: &mut [u64],
 ) -> u32
-    ensures { λ r. ⌜
-        Handed (record { n = n; ask = imageRead (now (image .entry)) })
-        (tables (now (cost .entry)) (now (time .entry)) (now (ways .entry)) (now (share .entry)) (now (score .entry)))
-        (tables (now (cost .exit)) (now (time .exit)) (now (ways .exit)) (now (share .exit)) (now (score .exit))) r 0 0 0 []
-        ⌝ }
+    ensures { λ r. ⌜ Handed (record { n = n; ask = imageRead (now (image .entry)) }) (found cost time ways share score) (left cost time ways share score) (ofNumber r) ⌝ }
 {
-    code(image_read(n, image, cost, time, ways, share, score))
+    number_of(image_read(n, image, cost, time, ways, share, score))
 }
 
 // 0 for an image of a hall of n stops, else 1 or 9. Document 01 has the bytes before n.
@@ -208,5 +193,5 @@ pub extern "C" fn hall_image_read(
 pub extern "C" fn hall_image_check(image: &[u8], n: u64) -> u32
     ensures { λ r. ⌜ r ≡ number (imageCheck n (now (image .entry))) ⌝ }
 {
-    code(image_check(image, n))
+    number_of(image_check(image, n))
 }

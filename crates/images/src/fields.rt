@@ -7,25 +7,25 @@ ghost use lib.Seq.{sets};
 ghost use Rattle.book.specs.Hall.{lowFirst, field};
 
 // The number in one byte, in two and in four.
-pub fn one(bytes: &[u8], at: usize) -> usize
+pub fn u8_at(bytes: &[u8], at: usize) -> usize
     requires { ⌜ at < length (now bytes) ⌝ }
     ensures { λ r. ⌜ (r ≡ field (now (bytes .entry)) at 1) × (r < 256) ⌝ }
 {
     bytes[at] as usize
 }
 
-pub fn two(bytes: &[u8], at: usize) -> usize
+pub fn u16_at(bytes: &[u8], at: usize) -> usize
     requires { ⌜ at + 2 ≤ length (now bytes) ⌝ }
     ensures { λ r. ⌜ (r ≡ field (now (bytes .entry)) at 2) × (r < 65536) ⌝ }
 {
-    one(bytes, at) + 256 * one(bytes, at + 1)
+    u8_at(bytes, at) + 256 * u8_at(bytes, at + 1)
 }
 
-pub fn four(bytes: &[u8], at: usize) -> usize
+pub fn u32_at(bytes: &[u8], at: usize) -> usize
     requires { ⌜ at + 4 ≤ length (now bytes) ⌝ }
     ensures { λ r. ⌜ r ≡ field (now (bytes .entry)) at 4 ⌝ }
 {
-    two(bytes, at) + 65536 * two(bytes, at + 2)
+    u16_at(bytes, at) + 65536 * u16_at(bytes, at + 2)
 }
 
 // Stores a number in two bytes, and in four.

@@ -1,21 +1,21 @@
 // Image check: whether bytes are an image of a hall. A reader starts at the end, with the trailer.
 use super::fields;
 use book::Refusal;
-use hall::limits::Hall;
+use book::limits::Hall;
 ghost use mathlib.Core.Path.{_≡_};
 ghost use Prim.Native.Nat.{_+_, _*_, _<_, _≤_};
 ghost use lib.ListN.{length};
 ghost use Rattle.routes.specs.Route.{allTo};
 ghost use Rattle.book.specs.Hall.{validRecord, isImage};
 ghost use Rattle.book.specs.Call.{imageCheck};
-ghost use Rattle.images.specs.ImagePromise.{keyAt, linkAt};
+ghost use Rattle.images.specs.Promise.{keyAt, linkAt};
 
 // The place of a record in the order: its two stops as one number.
 fn key(image: &[u8], at: usize) -> usize
     requires { ⌜ at + 2 ≤ length (now image) ⌝ }
     ensures { λ r. ⌜ (r ≡ keyAt (now (image .entry)) at) × (r < 65536) ⌝ }
 {
-    256 * fields::one(image, at) + fields::one(image, at + 1)
+    256 * fields::u8_at(image, at) + fields::u8_at(image, at + 1)
 }
 
 // The record is a link, and its key is not below the least.
@@ -23,18 +23,18 @@ fn is_link(n: usize, image: &[u8], at: usize, least: usize) -> bool
     requires { ⌜ at + 4 ≤ length (now image) ⌝ }
     ensures { λ r. ⌜ r ≡ linkAt n (now (image .entry)) at least ⌝ }
 {
-    let from = fields::one(image, at);
+    let from = fields::u8_at(image, at);
     if n <= from {
         return false;
     }
-    let to = fields::one(image, at + 1);
+    let to = fields::u8_at(image, at + 1);
     if n <= to {
         return false;
     }
     if from == to {
         return false;
     }
-    if fields::two(image, at + 2) == 0 {
+    if fields::u16_at(image, at + 2) == 0 {
         return false;
     }
     least <= key(image, at)
@@ -63,14 +63,14 @@ pub fn is_image(n: usize, image: &[u8]) -> bool
         return false;
     }
     let at = image.len() - 8;
-    let links = fields::two(image, at + 2);
-    if fields::one(image, at) != n {
+    let links = fields::u16_at(image, at + 2);
+    if fields::u8_at(image, at) != n {
         return false;
     }
-    if fields::one(image, at + 1) != 1 {
+    if fields::u8_at(image, at + 1) != 1 {
         return false;
     }
-    if fields::four(image, at + 4) != 4 * links {
+    if fields::u32_at(image, at + 4) != 4 * links {
         return false;
     }
     if 4 * links != at {

@@ -2,19 +2,22 @@
 use super::fields;
 use super::image_check;
 use book::Refusal;
-use hall::limits::Hall;
-use hall::places;
-use hall::scores;
-use hall::snapshot;
-use hall::work;
+use book::limits::Hall;
+use book::number_of::passes;
+use hall::door::door;
+use tables::fill_all;
+use tables::places;
+use tables::scores;
+use tables::snapshot;
 ghost use mathlib.Core.Path.{_≡_};
 ghost use mathlib.Core.Bool.{true};
 ghost use Prim.Native.Nat.{_*_, _<_, _≤_};
 ghost use lib.ListN.{length, replicate};
 ghost use Rattle.book.specs.Hall.{isImage, costsOf};
 ghost use Rattle.book.specs.Call.{imageRead, Done};
-ghost use Rattle.hall.specs.Promise.{tables, says, Square};
-ghost use Rattle.images.specs.ImagePromise.{Loaded};
+ghost use Rattle.book.specs.Contract.{these, found, left, ofRefusal, Inside};
+ghost use Rattle.tables.specs.Promise.{Square};
+ghost use Rattle.images.specs.Promise.{Loaded};
 
 // Sets the costs of an image's links in a table without links.
 fn read_costs(n: usize, image: &[u8], cost: &mut [u32])
@@ -24,10 +27,10 @@ fn read_costs(n: usize, image: &[u8], cost: &mut [u32])
     let links = (image.len() - 8) / 4;
     for i in 0..links {
         let at = 4 * i;
-        let from = fields::one(image, at);
-        let to = fields::one(image, at + 1);
+        let from = fields::u8_at(image, at);
+        let to = fields::u8_at(image, at + 1);
         let place = places::start(n, from) + to;
-        cost[place] = fields::two(image, at + 2) as u32;
+        cost[place] = fields::u16_at(image, at + 2) as u32;
     }
 }
 
@@ -44,14 +47,45 @@ fn load(
     requires { ⌜ Square n (now time) (now ways) (now share) ⌝ }
     ensures { λ r. ⌜ Loaded n (now (image .entry)) (now (cost .entry)) (now (time .entry)) (now (ways .entry)) (now (share .entry)) (now (cost .exit)) (now (time .exit)) (now (ways .exit)) (now (share .exit)) r ⌝ }
 {
-    let cells = places::square(n);
+    let cells = places::cells(n);
     let mut costs = [0u32; Hall::CELLS];
     read_costs(n, image, &mut costs[..cells]);
-    if !work::attempt(n, &costs[..cells], time, ways, share) {
+    if !fill_all::fill_all(
+        Hall::WAYS,
+        Hall::SCALE,
+        n,
+        &costs[..cells],
+        time,
+        ways,
+        share,
+    ) {
         return false;
     }
     snapshot::copy32(cells, &costs[..cells], cost);
     true
+}
+
+// Image read behind the door: tests 9 and 11, and the tables.
+fn read_tables(
+    n: usize,
+    image: &[u8],
+    cost: &mut [u32],
+    time: &mut [u32],
+    ways: &mut [u32],
+    share: &mut [u64],
+    score: &mut [u64],
+) -> Refusal
+    requires { ⌜ Inside n (these cost time ways share score) ⌝ }
+    ensures { λ r. ⌜ Done (record { n = n; ask = imageRead (now (image .entry)) }) (found cost time ways share score) (left cost time ways share score) (ofRefusal r) ⌝ }
+{
+    if !image_check::is_image(n, image) {
+        return Refusal::BadImage;
+    }
+    if !load(n, image, cost, time, ways, share) {
+        return Refusal::TooManyWays;
+    }
+    scores::sum_scores(n, share, score);
+    Refusal::Accepted
 }
 
 pub fn image_read(
@@ -63,25 +97,11 @@ pub fn image_read(
     share: &mut [u64],
     score: &mut [u64],
 ) -> Refusal
-    ensures { λ r. ⌜
-        Done (record { n = n; ask = imageRead (now (image .entry)) })
-        (tables (now (cost .entry)) (now (time .entry)) (now (ways .entry)) (now (share .entry)) (now (score .entry)))
-        (tables (now (cost .exit)) (now (time .exit)) (now (ways .exit)) (now (share .exit)) (now (score .exit))) (says r)
-        ⌝ }
+    ensures { λ r. ⌜ Done (record { n = n; ask = imageRead (now (image .entry)) }) (found cost time ways share score) (left cost time ways share score) (ofRefusal r) ⌝ }
 {
-    if !Hall::takes(n) {
-        return Refusal::BadSize;
+    let verdict = door(n, cost, time, ways, share, score);
+    if !passes(verdict) {
+        return verdict;
     }
-    let k = n as usize;
-    if !places::sized(k, cost, time, ways, share, score) {
-        return Refusal::BadLength;
-    }
-    if !image_check::is_image(k, image) {
-        return Refusal::BadImage;
-    }
-    if !load(k, image, cost, time, ways, share) {
-        return Refusal::TooManyWays;
-    }
-    scores::sum_scores(k, share, score);
-    Refusal::Accepted
+    read_tables(n as usize, image, cost, time, ways, share, score)
 }

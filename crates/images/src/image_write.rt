@@ -1,25 +1,20 @@
 // Image write: the links of a hall and a trailer, in a lent buffer.
 use super::fields;
 use book::Refusal;
-use hall::limits::Hall;
-use hall::places;
-use hall::sound;
+use book::WriteAnswer;
+use book::number_of::passes;
+use hall::audit::audit;
+use tables::places;
 ghost use mathlib.Core.Path.{_≡_};
 ghost use mathlib.Core.Bool.{true};
 ghost use Prim.Native.Nat.{_+_, _*_, _<_, _≤_};
 ghost use lib.ListN.{length};
 ghost use lib.Seq.{sets};
 ghost use Rattle.book.specs.Hall.{entry, validCosts};
+ghost use Rattle.book.specs.Written.{linksTo, trailer};
 ghost use Rattle.book.specs.Call.{imageWrite, Done};
-ghost use Rattle.book.specs.WriterLaws.{linksTo, trailer};
-ghost use Rattle.hall.specs.Promise.{tables};
-ghost use Rattle.images.specs.ImagePromise.{linkBit, linkBytes, links, writes, stored, Room, Wrote};
-
-// A refusal, or the length of the image.
-pub struct Written {
-    pub refusal: Refusal,
-    pub length: usize,
-}
+ghost use Rattle.book.specs.Contract.{found, ofWrite};
+ghost use Rattle.images.specs.Promise.{linkBit, linkBytes, links, stored, Room, Wrote};
 
 // The number of links.
 fn count(cost: &[u32]) -> usize
@@ -80,21 +75,21 @@ fn put_trailer(n: usize, links: usize, at: usize, buffer: &mut [u8])
 }
 
 // Stores the image where it fits. Else nothing is written.
-fn store(n: usize, cost: &[u32], buffer: &mut [u8]) -> Written
+fn store(n: usize, cost: &[u32], buffer: &mut [u8]) -> WriteAnswer
     requires { ⌜ (n ≤ 64) × (length (now cost) ≡ n * n) × (validCosts n (now cost) ≡ true) ⌝ }
-    ensures { λ r. ⌜ writes (r .refusal) (r .length) (now (buffer .exit)) ≡ stored n (now (cost .entry)) (now (buffer .entry)) ⌝ }
+    ensures { λ r. ⌜ ofWrite r (now (buffer .exit)) ≡ stored n (now (cost .entry)) (now (buffer .entry)) ⌝ }
 {
     let links = count(cost);
     let length = 4 * links + 8;
     if buffer.len() < length {
-        return Written {
+        return WriteAnswer {
             refusal: Refusal::ShortBuffer,
             length: 0,
         };
     }
     let at = put_rows(n, cost, buffer);
     put_trailer(n, links, at, buffer);
-    Written {
+    WriteAnswer {
         refusal: Refusal::Accepted,
         length,
     }
@@ -108,32 +103,15 @@ pub fn image_write(
     share: &[u64],
     score: &[u64],
     buffer: &mut [u8],
-) -> Written
-    ensures { λ r. ⌜
-        Done (record { n = n; ask = imageWrite (now (buffer .entry)) })
-        (tables (now (cost .entry)) (now (time .entry)) (now (ways .entry)) (now (share .entry)) (now (score .entry)))
-        (tables (now (cost .entry)) (now (time .entry)) (now (ways .entry)) (now (share .entry)) (now (score .entry)))
-        (writes (r .refusal) (r .length) (now (buffer .exit)))
-        ⌝ }
+) -> WriteAnswer
+    ensures { λ r. ⌜ Done (record { n = n; ask = imageWrite (now (buffer .entry)) }) (found cost time ways share score) (found cost time ways share score) (ofWrite r (now (buffer .exit))) ⌝ }
 {
-    if !Hall::takes(n) {
-        return Written {
-            refusal: Refusal::BadSize,
+    let verdict = audit(n, cost, time, ways, share, score);
+    if !passes(verdict) {
+        return WriteAnswer {
+            refusal: verdict,
             length: 0,
         };
     }
-    let k = n as usize;
-    if !places::sized(k, cost, time, ways, share, score) {
-        return Written {
-            refusal: Refusal::BadLength,
-            length: 0,
-        };
-    }
-    if !sound::sound(k, cost, time, ways, share, score) {
-        return Written {
-            refusal: Refusal::BadTables,
-            length: 0,
-        };
-    }
-    store(k, cost, buffer)
+    store(n as usize, cost, buffer)
 }

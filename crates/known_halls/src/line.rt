@@ -1,13 +1,9 @@
 // The longest line: 64 stops, each with a link of the largest cost to the next.
-use super::calls::image_check;
 use super::report;
 use super::report::Inserts;
 use super::report::inserted;
 use super::report::no_inserts;
 use super::report::reached;
-use super::tables::Tables;
-use super::tables::filled;
-use super::tables::link;
 use super::tables::score;
 use super::text;
 use super::text::behind;
@@ -15,6 +11,9 @@ use super::text::end;
 use super::text::field;
 use super::text::first;
 use super::text::say;
+use calls::tables::Tables;
+use calls::tables::filled;
+use calls::tables::link;
 
 fn links() -> Tables {
     let mut t = filled(0, 0);
@@ -71,12 +70,12 @@ fn stored(t: Tables, long: &mut [u8], exact: &mut [u8], short: &mut [u8]) {
 }
 
 fn checked(image: &[u8], longer: &[u8]) {
-    field(b"image check: 260 bytes ", image_check(image, 64));
-    field(b", 264 bytes ", image_check(longer, 64));
-    field(b", first 256 bytes ", image_check(first(image, 256), 64));
-    field(b", last 256 bytes ", image_check(behind(image, 4), 64));
-    field(b", n = 63 ", image_check(image, 63));
-    field(b", n = 65 ", image_check(image, 65));
+    report::image_check(b"image check: 260 bytes ", image, 64);
+    report::image_check(b", 264 bytes ", longer, 64);
+    report::image_check(b", first 256 bytes ", first(image, 256), 64);
+    report::image_check(b", last 256 bytes ", behind(image, 4), 64);
+    report::image_check(b", n = 63 ", image, 63);
+    report::image_check(b", n = 65 ", image, 65);
     end();
 }
 

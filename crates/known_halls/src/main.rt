@@ -1,9 +1,7 @@
 // Runs the hall calls on the known halls of document 01 that no theorem covers, holds what they answer
 // and leave against the slow lister, and writes both.
-mod calls;
 mod line;
 mod listed;
-mod parts;
 mod report;
 mod sizes;
 mod smallest;

@@ -1,16 +1,30 @@
 // Calls with what they answered written behind a name, and what the lister says of it; and lines on
 // what tables hold. A call's function gives the tables that it left.
-use super::calls;
-use super::calls::Link;
 use super::listed;
 use super::tables;
-use super::tables::Tables;
 use super::text::end;
 use super::text::field;
 use super::text::say;
+use calls::call::AUDIT;
+use calls::call::Call;
+use calls::call::EMPTY_HALL;
+use calls::call::IMAGE_READ;
+use calls::call::IMAGE_WRITE;
+use calls::call::INSERT;
+use calls::call::WORK_OUT;
+use calls::call::plain;
+use calls::compare::differing;
+use calls::make::Done;
+use calls::make::check;
+use calls::make::make;
+use calls::tables::Tables;
+use calls::tables::filled;
+use calls::tables::link;
 
-fn link(u: u64, v: u64, c: u32) -> Link {
-    Link { u, v, c }
+// Makes a call that writes no image.
+fn made(call: Call, image: &[u8], t: Tables) -> Done {
+    let mut none = [0u8; 1];
+    make(call, call.n, 0, image, &mut none, t)
 }
 
 // Holds a call against the lister. An accepted one is to leave the costs `wanted` and their listed
@@ -33,8 +47,8 @@ fn held(n: u64, refusal: u64, unlisted: u64, wanted: Tables, left: Tables) {
 }
 
 // A call that brings no link and is to leave the costs `wanted`.
-fn said(name: &[u8], ask: u64, n: u64, t: Tables, wanted: Tables) -> Tables {
-    let done = calls::change(ask, n, link(0, 0, 0), b"-", t);
+fn said(name: &[u8], number: u64, n: u64, t: Tables, wanted: Tables) -> Tables {
+    let done = made(plain(number, n), b"-", t);
     let answer = done.answer;
     let left = done.tables;
     field(name, answer.refusal);
@@ -42,31 +56,18 @@ fn said(name: &[u8], ask: u64, n: u64, t: Tables, wanted: Tables) -> Tables {
     left
 }
 
-fn edited(name: &[u8], ask: u64, n: u64, brought: Link, t: Tables) -> Tables {
-    let done = calls::change(ask, n, brought, b"-", t);
-    let answer = done.answer;
-    let left = done.tables;
-    let wanted = tables::link(n, brought.u, brought.v, brought.c, t);
-    field(name, answer.refusal);
-    field(b", touched ", answer.touched);
-    field(b", rows ", answer.rows);
-    let unlisted = listed::unlisted_answer(n, brought, t, wanted, answer);
-    held(n, answer.refusal, unlisted, wanted, left);
-    left
-}
-
 // Where it is accepted, over tables of entries 0.
 pub fn empty_hall(name: &[u8], n: u64, t: Tables) -> Tables {
-    said(name, calls::EMPTY_HALL, n, t, tables::filled(0, 0))
+    said(name, EMPTY_HALL, n, t, filled(0, 0))
 }
 
 pub fn work_out(name: &[u8], n: u64, t: Tables) -> Tables {
-    said(name, calls::WORK_OUT, n, t, t)
+    said(name, WORK_OUT, n, t, t)
 }
 
 // The lister takes the costs that were read; whether they are the right ones is for `same` to say.
 pub fn image_read(name: &[u8], n: u64, image: &[u8], t: Tables) -> Tables {
-    let done = calls::change(calls::IMAGE_READ, n, link(0, 0, 0), image, t);
+    let done = made(plain(IMAGE_READ, n), image, t);
     let answer = done.answer;
     let left = done.tables;
     field(name, answer.refusal);
@@ -74,33 +75,52 @@ pub fn image_read(name: &[u8], n: u64, image: &[u8], t: Tables) -> Tables {
     left
 }
 
-pub fn insert(name: &[u8], n: u64, u: u64, v: u64, c: u32, t: Tables) -> Tables {
-    edited(name, calls::INSERT, n, link(u, v, c), t)
+fn edited(name: &[u8], call: Call, t: Tables) -> Tables {
+    let done = made(call, b"-", t);
+    let answer = done.answer;
+    let left = done.tables;
+    let wanted = link(call.n, call.u, call.v, call.cost, t);
+    field(name, answer.refusal);
+    field(b", touched ", answer.touched);
+    field(b", rows ", answer.rows);
+    let unlisted = listed::unlisted_answer(call, t, wanted, answer);
+    held(call.n, answer.refusal, unlisted, wanted, left);
+    left
 }
 
-pub fn cheapen(name: &[u8], n: u64, u: u64, v: u64, c: u32, t: Tables) -> Tables {
-    edited(name, calls::CHEAPEN, n, link(u, v, c), t)
-}
-
-pub fn delete(name: &[u8], n: u64, u: u64, v: u64, t: Tables) -> Tables {
-    edited(name, calls::DELETE, n, link(u, v, 0), t)
+// The edit of that number. A delete's cost is 0.
+pub fn edit(name: &[u8], number: u64, n: u64, u: u64, v: u64, cost: u64, t: Tables) -> Tables {
+    edited(
+        name,
+        Call {
+            number,
+            n,
+            u,
+            v,
+            cost,
+        },
+        t,
+    )
 }
 
 pub fn audit(n: u64, t: Tables) {
-    let mut none = [0u8; 1];
-    let answer = calls::look(false, n, t, &mut none);
+    let answer = made(plain(AUDIT, n), b"-", t).answer;
     field(b", audit ", answer.refusal);
 }
 
 pub fn image_write(name: &[u8], n: u64, t: Tables, buffer: &mut [u8]) {
-    let answer = calls::look(true, n, t, buffer);
+    let answer = make(plain(IMAGE_WRITE, n), n, 0, b"-", buffer, t).answer;
     field(name, answer.refusal);
     field(b", length ", answer.length);
 }
 
+pub fn image_check(name: &[u8], image: &[u8], n: u64) {
+    field(name, check(image, n).refusal);
+}
+
 // Whether five tables are five others.
 pub fn same(t: Tables, o: Tables) {
-    let count = tables::differing(t, o);
+    let count = differing(t, o);
     if count == 0 {
         say(b", same tables");
     } else {
@@ -160,14 +180,19 @@ fn one(refusal: u64) -> u64 {
 }
 
 // One insert more.
-pub fn inserted(n: u64, u: u64, v: u64, c: u32, before: Inserts) -> Inserts {
+pub fn inserted(n: u64, u: u64, v: u64, cost: u64, before: Inserts) -> Inserts {
     let t = before.tables;
-    let brought = link(u, v, c);
-    let done = calls::change(calls::INSERT, n, brought, b"-", t);
+    let call = Call {
+        number: INSERT,
+        n,
+        u,
+        v,
+        cost,
+    };
+    let done = made(call, b"-", t);
     let answer = done.answer;
     let accepted = std::num::wrapping_add_u64(before.accepted, one(answer.refusal));
-    let wanted = tables::link(n, u, v, c, t);
-    let more = listed::unlisted(n, brought, t, wanted, done);
+    let more = listed::unlisted(call, t, link(n, u, v, cost, t), done);
     let unlisted = std::num::wrapping_add_u64(before.unlisted, more);
     let tables = done.tables;
     Inserts {

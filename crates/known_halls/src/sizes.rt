@@ -1,12 +1,14 @@
 // A hall of 65 stops, which no call takes. Every entry and byte is 7 at first.
-use super::calls::image_check;
 use super::report;
-use super::tables::Tables;
-use super::tables::filled;
 use super::text;
 use super::text::end;
 use super::text::field;
 use super::text::say;
+use calls::call::CHEAPEN;
+use calls::call::DELETE;
+use calls::call::INSERT;
+use calls::tables::Tables;
+use calls::tables::filled;
 
 fn whole(t: Tables) -> Tables {
     let empty = report::empty_hall(b"empty hall ", 65, t);
@@ -17,11 +19,11 @@ fn whole(t: Tables) -> Tables {
 }
 
 fn edits(t: Tables) -> Tables {
-    let more = report::insert(b"insert 0 1: ", 65, 0, 1, 5, t);
+    let more = report::edit(b"insert 0 1: ", INSERT, 65, 0, 1, 5, t);
     end();
-    let cheaper = report::cheapen(b"cheapen 0 1: ", 65, 0, 1, 5, more);
+    let cheaper = report::edit(b"cheapen 0 1: ", CHEAPEN, 65, 0, 1, 5, more);
     end();
-    let left = report::delete(b"delete 0 1: ", 65, 0, 1, cheaper);
+    let left = report::edit(b"delete 0 1: ", DELETE, 65, 0, 1, 0, cheaper);
     end();
     left
 }
@@ -31,7 +33,7 @@ fn images(t: Tables, buffer: &mut [u8]) -> Tables {
     report::image_write(b"image write into 260 bytes: ", 65, t, buffer);
     end();
     let left = report::image_read(b"image read ", 65, &image, t);
-    field(b", image check ", image_check(&image, 65));
+    report::image_check(b", image check ", &image, 65);
     end();
     left
 }

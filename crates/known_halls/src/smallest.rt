@@ -1,15 +1,14 @@
 // The image of a hall without links: a trailer alone.
-use super::calls::image_check;
 use super::report;
-use super::tables::Tables;
-use super::tables::filled;
-use super::tables::link;
 use super::text;
 use super::text::behind;
 use super::text::end;
 use super::text::field;
 use super::text::first;
 use super::text::say;
+use calls::tables::Tables;
+use calls::tables::filled;
+use calls::tables::link;
 
 // Writes the image of an empty hall into buffers of 8 and 7 bytes that hold the byte 7.
 fn stored(image: &mut [u8], short: &mut [u8]) -> Tables {
@@ -25,7 +24,7 @@ fn stored(image: &mut [u8], short: &mut [u8]) -> Tables {
 
 // Checks bytes and reads them over the tables t; the tables are then to be `wanted`.
 fn read(name: &[u8], image: &[u8], t: Tables, wanted: Tables) -> Tables {
-    field(name, image_check(image, 3));
+    report::image_check(name, image, 3);
     let left = report::image_read(b", image read ", 3, image, t);
     report::audit(3, left);
     report::same(left, wanted);

@@ -1,4 +1,5 @@
 // Writing to standard output.
+use calls::compare::unlike;
 use libc::STDOUT_FILENO;
 
 pub fn say(text: &[u8]) {
@@ -44,10 +45,6 @@ pub fn first(bytes: &[u8], k: usize) -> &[u8] {
 // The bytes behind the first k, or all where there are fewer.
 pub fn behind(bytes: &[u8], k: usize) -> &[u8] {
     if k <= bytes.len() { &bytes[k..] } else { bytes }
-}
-
-fn unlike(x: u64, y: u64) -> u64 {
-    if x == y { 0 } else { 1 }
 }
 
 // The number of bytes that are not 7, the value that buffers have at first.

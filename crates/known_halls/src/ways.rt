@@ -4,11 +4,13 @@ use super::report::Inserts;
 use super::report::inserted;
 use super::report::no_inserts;
 use super::report::reached;
-use super::tables::Tables;
-use super::tables::filled;
-use super::tables::link;
 use super::text::end;
 use super::text::say;
+use calls::call::DELETE;
+use calls::call::INSERT;
+use calls::tables::Tables;
+use calls::tables::filled;
+use calls::tables::link;
 
 fn way(n: u64, last: u64, m: u64, t: Tables) -> Tables {
     let half = link(n, 0, m, 5, t);
@@ -76,7 +78,7 @@ fn at_once(t: Tables) {
 fn by_inserts(t: Tables) {
     let before = inserted(25, 0, 23, 5, insert_ways(25, 24, 23, start(25)));
     reached(25, before, t);
-    let left = report::insert(b"insert 23 24: ", 25, 23, 24, 5, before.tables);
+    let left = report::edit(b"insert 23 24: ", INSERT, 25, 23, 24, 5, before.tables);
     report::same(left, t);
     report::audit(25, left);
     end();
@@ -101,7 +103,7 @@ fn beside() -> Tables {
 
 // Deletes the link of 9.
 fn closed(t: Tables) -> Tables {
-    let left = report::delete(b"delete 0 24: ", 25, 0, 24, t);
+    let left = report::edit(b"delete 0 24: ", DELETE, 25, 0, 24, 0, t);
     report::same(left, t);
     report::audit(25, left);
     end();
@@ -111,10 +113,10 @@ fn closed(t: Tables) -> Tables {
 
 // Deletes a link of the last way, and then the link of 9.
 fn closed_with_another(t: Tables) {
-    let less = report::delete(b"delete 23 24: ", 25, 23, 24, t);
+    let less = report::edit(b"delete 23 24: ", DELETE, 25, 23, 24, 0, t);
     report::audit(25, less);
     end();
-    let left = report::delete(b"delete 0 24: ", 25, 0, 24, less);
+    let left = report::edit(b"delete 0 24: ", DELETE, 25, 0, 24, 0, less);
     report::audit(25, left);
     end();
     report::pair(24, left);

@@ -1,6 +1,3 @@
+-- The definitions of hallscore, and what its functions promise.
 pub mod Text
-pub mod Worked
-pub mod Reading
-pub mod Printing
-pub mod Running
-pub mod Whole
+pub mod Promise

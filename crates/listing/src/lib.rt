@@ -1,6 +1,7 @@
 // hallscore's text in and text out.
+use book::Edit;
 use book::Kind;
-use hall::limits::Hall;
+use book::limits::Hall;
 
 mod print;
 mod run;
@@ -8,19 +9,23 @@ mod words;
 
 ghost use mathlib.Core.Path.{_≡_};
 ghost use mathlib.Core.Bool.{true};
-ghost use Prim.Native.Nat.{_+_, _≤_};
-ghost use lib.ListN.{length, drop};
+ghost use lib.ListN.{drop};
 ghost use mathlib.Core.List.{_++_};
 ghost use Rattle.book.specs.Hall.{mostStops, upTo};
 ghost use Rattle.book.specs.Book.{noLinks};
-ghost use Rattle.listing.specs.Text.{lines, hallLine, report};
-ghost use Rattle.listing.specs.Printing.{Printed};
-ghost use Rattle.listing.specs.Whole.{wrote};
+ghost use Rattle.listing.specs.Text.{longest, lines, hallLine, report};
+ghost use Rattle.listing.specs.Promise.{room, Printed, Ready, wrote};
 
 // A line after the first: an edit, a delete's cost being 0, or one that is no edit.
 pub enum Line {
-    Edit { kind: Kind, u: u64, v: u64, c: u64 },
+    Read(Edit),
     Unread,
+}
+
+// What a word is as a kind of edit.
+pub enum Named {
+    Known(Kind),
+    Unknown,
 }
 
 // What a word is as a number.
@@ -35,15 +40,21 @@ pub struct Listed {
     pub length: usize,
 }
 
-// The longest text that is read, and room for the listing of any text.
-const LONGEST: usize = 32768;
+// The longest text that is read, and room for the listing of any text: specs/Promise.antt says where it comes from.
+pub const LONGEST: usize = 32768;
 
-const ROOM: usize = 430000;
+pub const ROOM: usize = 430000;
+
+// They are those of the definitions.
+pub fn bounds_agree()
+    ensures text { λ r. do ⌜ (← ⟦LONGEST⟧ .entry) ≡ longest ⌝ }
+    ensures output { λ r. do ⌜ (← ⟦ROOM⟧ .entry) ≡ room ⌝ }
+{}
 
 // The listing of a text behind its first line, which asks for a hall of n stops.
 fn hall(n: u64, text: &[u8], first: usize, out: &mut [u8]) -> usize
     requires { ⌜ upTo mostStops n ≡ true ⌝ }
-    requires { ⌜ (length (now text) ≤ 32768) × (first ≤ length (now text) + 1) × (430000 ≤ length (now out)) ⌝ }
+    requires { ⌜ Ready (now text) first (now out) 0 ⌝ }
     ensures { λ r. ⌜ Printed (hallLine n ++ report 2 (noLinks n) (lines (drop first (now (text .entry))))) 0 (now (out .entry)) r (now (out .exit)) ⌝ }
 {
     let mut cost = [0u32; Hall::CELLS];
@@ -53,7 +64,7 @@ fn hall(n: u64, text: &[u8], first: usize, out: &mut [u8]) -> usize
     let mut score = [0u64; Hall::STOPS];
     let k = n as usize;
     let cells = k * k;
-    let at = print::heading(n, out, 0);
+    let at = print::hall_line(n, out, 0);
     run::start(
         n,
         text,
@@ -85,7 +96,7 @@ pub fn list(input: &[u8], output: &mut [u8]) -> Listed
             length: end,
         };
     }
-    let e = words::cut(input, b'\n');
+    let e = words::index_of(input, b'\n');
     let n = words::hall_of(&input[..e]);
     if !Hall::takes(n) {
         let end = print::put(b"no hall\n", output, 0);

@@ -1,21 +1,21 @@
 // Printing: each function writes its text from a place on, and gives the place behind it.
-use hall::limits::Hall;
+use book::EditAnswer;
+use book::limits::Hall;
+use book::number_of::number_of;
+use bytes::copy;
 ghost use Prim.Native.Nat.{_+_, _≤_};
 ghost use lib.ListN.{length};
+ghost use mathlib.Core.List.{_++_};
+ghost use Rattle.book.specs.Contract.{ofEdit};
 ghost use Rattle.listing.specs.Text.{decimal as Text·decimal, hallLine, editLine, unreadLine, stopLine};
-ghost use Rattle.listing.specs.Printing.{Printed};
+ghost use Rattle.listing.specs.Promise.{Printed};
 
 // A text.
 pub fn put(text: &[u8], out: &mut [u8], at: usize) -> usize
     requires { ⌜ at + length (now text) ≤ length (now out) ⌝ }
     ensures { λ r. ⌜ Printed (now (text .entry)) at (now (out .entry)) r (now (out .exit)) ⌝ }
 {
-    let mut i = 0;
-    while i < text.len() {
-        out[at + i] = text[i];
-        i += 1;
-    }
-    at + i
+    at + copy(text, &mut out[at..])
 }
 
 // A number.
@@ -32,8 +32,17 @@ fn decimal(x: u64, out: &mut [u8], at: usize) -> usize
     end + 1
 }
 
+// A text and a number behind it.
+fn labelled(text: &[u8], x: u64, out: &mut [u8], at: usize) -> usize
+    requires { ⌜ at + length (now text ++ Text·decimal x) ≤ length (now out) ⌝ }
+    ensures { λ r. ⌜ Printed (now (text .entry) ++ Text·decimal x) at (now (out .entry)) r (now (out .exit)) ⌝ }
+{
+    let a = put(text, out, at);
+    decimal(x, out, a)
+}
+
 // The line of an unread line.
-pub fn unread(i: u64, out: &mut [u8], at: usize) -> usize
+pub fn unread_line(i: u64, out: &mut [u8], at: usize) -> usize
     requires { ⌜ at + length (unreadLine i) ≤ length (now out) ⌝ }
     ensures { λ r. ⌜ Printed (unreadLine i) at (now (out .entry)) r (now (out .exit)) ⌝ }
 {
@@ -42,38 +51,33 @@ pub fn unread(i: u64, out: &mut [u8], at: usize) -> usize
 }
 
 // The line of an edit.
-pub fn answer(i: u64, refusal: u64, rows: u64, out: &mut [u8], at: usize) -> usize
-    requires { ⌜ at + length (editLine i refusal rows) ≤ length (now out) ⌝ }
-    ensures { λ r. ⌜ Printed (editLine i refusal rows) at (now (out .entry)) r (now (out .exit)) ⌝ }
+pub fn edit_line(i: u64, a: EditAnswer, out: &mut [u8], at: usize) -> usize
+    requires { ⌜ at + length (editLine i (ofEdit a)) ≤ length (now out) ⌝ }
+    ensures { λ r. ⌜ Printed (editLine i (ofEdit a)) at (now (out .entry)) r (now (out .exit)) ⌝ }
 {
-    let a = decimal(i, out, at);
-    let b = put(b" ", out, a);
-    let c = decimal(refusal, out, b);
-    let d = put(b" ", out, c);
-    let e = decimal(rows, out, d);
-    put(b"\n", out, e)
+    let refusal = a.refusal;
+    let x = decimal(i, out, at);
+    let y = labelled(b" ", number_of(refusal) as u64, out, x);
+    let z = labelled(b" ", a.rows as u64, out, y);
+    put(b"\n", out, z)
 }
 
 // The line of a stop.
-pub fn stop(v: u64, score: u64, out: &mut [u8], at: usize) -> usize
+pub fn stop_line(v: u64, score: u64, out: &mut [u8], at: usize) -> usize
     requires { ⌜ at + length (stopLine v score) ≤ length (now out) ⌝ }
     ensures { λ r. ⌜ Printed (stopLine v score) at (now (out .entry)) r (now (out .exit)) ⌝ }
 {
-    let a = put(b"stop ", out, at);
-    let b = decimal(v, out, a);
-    let c = put(b" score ", out, b);
-    let d = decimal(score, out, c);
-    put(b"\n", out, d)
+    let a = labelled(b"stop ", v, out, at);
+    let b = labelled(b" score ", score, out, a);
+    put(b"\n", out, b)
 }
 
 // The first line.
-pub fn heading(n: u64, out: &mut [u8], at: usize) -> usize
+pub fn hall_line(n: u64, out: &mut [u8], at: usize) -> usize
     requires { ⌜ at + length (hallLine n) ≤ length (now out) ⌝ }
     ensures { λ r. ⌜ Printed (hallLine n) at (now (out .entry)) r (now (out .exit)) ⌝ }
 {
-    let a = put(b"hall ", out, at);
-    let b = decimal(n, out, a);
-    let c = put(b" scale ", out, b);
-    let d = decimal(Hall::SCALE, out, c);
-    put(b"\n", out, d)
+    let a = labelled(b"hall ", n, out, at);
+    let b = labelled(b" scale ", Hall::SCALE, out, a);
+    put(b"\n", out, b)
 }

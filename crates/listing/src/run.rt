@@ -2,29 +2,23 @@
 use super::print;
 use super::words;
 use crate::Line;
-use book::Kind;
-use hall::code;
-use hall::empty;
-ghost use Prim.Native.Nat.{_+_, _*_, _<_, _≤_};
-ghost use mathlib.Core.Path.{_≡_};
-ghost use mathlib.Core.Bool.{true};
+use book::Edit;
+use edits::audited::edit_audited;
+use hall::empty_hall::empty_hall;
+ghost use Prim.Native.Nat.{_+_, _*_, _≤_};
 ghost use lib.ListN.{length, getD, drop};
 ghost use Rattle.routes.specs.Route.{joinTo};
-ghost use Rattle.book.specs.Hall.{mostStops, upTo, sized};
+ghost use Rattle.book.specs.Hall.{mostStops};
 ghost use Rattle.book.specs.Book.{noLinks};
-ghost use Rattle.hall.specs.Promise.{tables};
+ghost use Rattle.book.specs.Contract.{these, found, left, Inside, Audited};
 ghost use Rattle.listing.specs.Text.{lines, words, lineOf, stopLine, report};
-ghost use Rattle.listing.specs.Printing.{Printed};
-ghost use Rattle.listing.specs.Running.{Standing, Stepped, bookOf};
+ghost use Rattle.listing.specs.Promise.{stopBytes, Printed, bookOf, Room, Stepped, Ready};
 
 // An edit, line i of the text.
 fn edit(
     i: u64,
-    kind: Kind,
+    e: Edit,
     n: u64,
-    u: u64,
-    v: u64,
-    c: u64,
     out: &mut [u8],
     at: usize,
     cost: &mut [u32],
@@ -33,18 +27,12 @@ fn edit(
     share: &mut [u64],
     score: &mut [u64],
 ) -> usize
-    requires { ⌜ Standing n (tables (now cost) (now time) (now ways) (now share) (now score)) ⌝ }
-    requires { ⌜ (i < 100000) × (at + 13 ≤ length (now out)) ⌝ }
-    ensures { λ r. ⌜
-        Stepped n i (Line.Edit kind u v c)
-        (tables (now (cost .entry)) (now (time .entry)) (now (ways .entry)) (now (share .entry)) (now (score .entry)))
-        (tables (now (cost .exit)) (now (time .exit)) (now (ways .exit)) (now (share .exit)) (now (score .exit))) at (now (out .entry)) r (now (out .exit))
-        ⌝ }
+    requires { ⌜ Audited n (these cost time ways share score) ⌝ }
+    requires { ⌜ Room i at (now out) ⌝ }
+    ensures { λ r. ⌜ Stepped n i (Line.Read e) (found cost time ways share score) (left cost time ways share score) at (now (out .entry)) r (now (out .exit)) ⌝ }
 {
-    let done = edits::audited::edit_audited(kind, n, u, v, c, cost, time, ways, share, score);
-    let refusal = done.refusal;
-    let rows = done.rows;
-    print::answer(i, code::code(refusal) as u64, rows as u64, out, at)
+    let answer = edit_audited(n, e, cost, time, ways, share, score);
+    print::edit_line(i, answer, out, at)
 }
 
 // Line i of the text.
@@ -60,43 +48,25 @@ fn step(
     share: &mut [u64],
     score: &mut [u64],
 ) -> usize
-    requires { ⌜ Standing n (tables (now cost) (now time) (now ways) (now share) (now score)) ⌝ }
-    requires { ⌜ (i < 100000) × (at + 13 ≤ length (now out)) ⌝ }
-    ensures { λ r. ⌜
-        Stepped n i (lineOf (words (now (line .entry))))
-        (tables (now (cost .entry)) (now (time .entry)) (now (ways .entry)) (now (share .entry)) (now (score .entry)))
-        (tables (now (cost .exit)) (now (time .exit)) (now (ways .exit)) (now (share .exit)) (now (score .exit))) at (now (out .entry)) r (now (out .exit))
-        ⌝ }
+    requires { ⌜ Audited n (these cost time ways share score) ⌝ }
+    requires { ⌜ Room i at (now out) ⌝ }
+    ensures { λ r. ⌜ Stepped n i (lineOf (words (now (line .entry)))) (found cost time ways share score) (left cost time ways share score) at (now (out .entry)) r (now (out .exit)) ⌝ }
 {
     match words::line_of(line) {
-        Line::Unread => print::unread(i, out, at),
-        Line::Edit { kind, u, v, c } => edit(
-            i,
-            kind,
-            n,
-            u,
-            v,
-            c,
-            out,
-            at,
-            cost,
-            time,
-            ways,
-            share,
-            score,
-        ),
+        Line::Unread => print::unread_line(i, out, at),
+        Line::Read(e) => edit(i, e, n, out, at, cost, time, ways, share, score),
     }
 }
 
 // The scores, a line for each stop.
 fn scores(score: &[u64], out: &mut [u8], start: usize) -> usize
-    requires { ⌜ (length (now score) ≤ 64) × (start + 35 * length (now score) ≤ length (now out)) ⌝ }
+    requires { ⌜ (length (now score) ≤ mostStops) × (start + stopBytes * length (now score) ≤ length (now out)) ⌝ }
     ensures { λ r. ⌜ Printed (joinTo (length (now (score .entry))) (λ v. stopLine v (getD (now (score .entry)) v 0))) start (now (out .entry)) r (now (out .exit)) ⌝ }
 {
     let mut at = start;
     let mut v = 0;
     while v < score.len() {
-        at = print::stop(v as u64, score[v], out, at);
+        at = print::stop_line(v as u64, score[v], out, at);
         v += 1;
     }
     at
@@ -115,20 +85,16 @@ fn run(
     share: &mut [u64],
     score: &mut [u64],
 ) -> usize
-    requires { ⌜ Standing n (tables (now cost) (now time) (now ways) (now share) (now score)) ⌝ }
-    requires { ⌜ (length (now text) ≤ 32768) × (first ≤ length (now text) + 1) × (start ≤ 24) × (430000 ≤ length (now out)) ⌝ }
-    ensures { λ r. ⌜
-        Printed
-        (report 2 (bookOf n (tables (now (cost .entry)) (now (time .entry)) (now (ways .entry)) (now (share .entry)) (now (score .entry)))) (lines (drop first (now (text .entry)))))
-        start (now (out .entry)) r (now (out .exit))
-        ⌝ }
+    requires { ⌜ Audited n (these cost time ways share score) ⌝ }
+    requires { ⌜ Ready (now text) first (now out) start ⌝ }
+    ensures { λ r. ⌜ Printed (report 2 (bookOf n (found cost time ways share score)) (lines (drop first (now (text .entry))))) start (now (out .entry)) r (now (out .exit)) ⌝ }
 {
     let mut at = start;
     let mut i: u64 = 2;
     let mut from = first;
     while from < text.len() {
         let rest = &text[from..];
-        let e = words::cut(rest, b'\n');
+        let e = words::index_of(rest, b'\n');
         at = step(i, &rest[..e], n, out, at, cost, time, ways, share, score);
         i += 1;
         from = from + e + 1;
@@ -149,11 +115,10 @@ pub fn start(
     share: &mut [u64],
     score: &mut [u64],
 ) -> usize
-    requires { ⌜ upTo mostStops n ≡ true ⌝ }
-    requires { ⌜ sized n (tables (now cost) (now time) (now ways) (now share) (now score)) ≡ true ⌝ }
-    requires { ⌜ (length (now text) ≤ 32768) × (first ≤ length (now text) + 1) × (at ≤ 24) × (430000 ≤ length (now out)) ⌝ }
+    requires { ⌜ Inside n (these cost time ways share score) ⌝ }
+    requires { ⌜ Ready (now text) first (now out) at ⌝ }
     ensures { λ r. ⌜ Printed (report 2 (noLinks n) (lines (drop first (now (text .entry))))) at (now (out .entry)) r (now (out .exit)) ⌝ }
 {
-    empty::empty_hall(n, cost, time, ways, share, score);
+    empty_hall(n, cost, time, ways, share, score);
     run(n, text, first, out, at, cost, time, ways, share, score)
 }

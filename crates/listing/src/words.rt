@@ -1,25 +1,22 @@
 // A text in parts: where a part ends, and what its words say.
 use crate::Line;
+use crate::Named;
 use crate::Number;
+use book::Edit;
 use book::Kind;
+use bytes::scan::find;
 ghost use mathlib.Core.Path.{_≡_};
+ghost use mathlib.Core.Bool.{cond};
 ghost use mathlib.Core.List.{[], _∷_};
+ghost use Rattle.bytes.specs.Bytes.{indexOf};
 ghost use Rattle.routes.specs.Route.{same as Route·same};
-ghost use Rattle.listing.specs.Text.{words, hallOf, lineOf};
-ghost use Rattle.listing.specs.Reading.{cutAt, numberOf};
+ghost use Rattle.listing.specs.Text.{words, numberOf, hallOf, costlyKind, plainKind, editOf, lineOf};
 
 // Where the first byte d of a text stands, or the text's length.
-pub fn cut(text: &[u8], d: u8) -> usize
-    ensures { λ r. ⌜ r ≡ cutAt d (now (text .entry)) ⌝ }
+pub fn index_of(text: &[u8], d: u8) -> usize
+    ensures { λ r. ⌜ r ≡ indexOf d (now (text .entry)) ⌝ }
 {
-    let mut i = 0;
-    while i < text.len() {
-        if text[i] == d {
-            return i;
-        }
-        i += 1;
-    }
-    i
+    find(text, 0, text.len(), d)
 }
 
 // Whether two words are the same.
@@ -78,12 +75,12 @@ fn number(word: &[u8]) -> Number
 pub fn hall_of(line: &[u8]) -> u64
     ensures { λ r. ⌜ r ≡ hallOf (words (now (line .entry))) ⌝ }
 {
-    let k = cut(line, b' ');
+    let k = index_of(line, b' ');
     if k >= line.len() {
         return 0;
     }
     let rest = &line[k + 1..];
-    if cut(rest, b' ') < rest.len() {
+    if index_of(rest, b' ') < rest.len() {
         return 0;
     }
     if !same(&line[..k], b"hall") {
@@ -95,80 +92,85 @@ pub fn hall_of(line: &[u8]) -> u64
     }
 }
 
+// A kind if the word is its name, else what the word is among the others.
+fn or_kind(word: &[u8], name: &[u8], kind: Kind, others: Named) -> Named
+    ensures { λ r. ⌜ r ≡ cond (Route·same (now (word .entry)) (now (name .entry))) (Named.Known kind) others ⌝ }
+{
+    if same(word, name) {
+        return Named::Known(kind);
+    }
+    others
+}
+
+// The kinds of edit whose line ends in a cost, and those whose line has none.
+fn costly_kind(word: &[u8]) -> Named
+    ensures { λ r. ⌜ r ≡ costlyKind (now (word .entry)) ⌝ }
+{
+    let kind = Named::Unknown;
+    let kind = or_kind(word, b"cheapen", Kind::Cheapen, kind);
+    or_kind(word, b"insert", Kind::Insert, kind)
+}
+
+fn plain_kind(word: &[u8]) -> Named
+    ensures { λ r. ⌜ r ≡ plainKind (now (word .entry)) ⌝ }
+{
+    or_kind(word, b"delete", Kind::Delete, Named::Unknown)
+}
+
+// The edit of a kind, u, v and a cost.
+fn edit_of(kind: Named, u: Number, v: Number, c: Number) -> Line
+    ensures { λ r. ⌜ r ≡ editOf kind u v c ⌝ }
+{
+    let Named::Known(kind) = kind else {
+        return Line::Unread;
+    };
+    let Number::Value(u) = u else {
+        return Line::Unread;
+    };
+    let Number::Value(v) = v else {
+        return Line::Unread;
+    };
+    let Number::Value(cost) = c else {
+        return Line::Unread;
+    };
+    Line::Read(Edit { kind, u, v, cost })
+}
+
 // A line of three words.
-fn three(kind: &[u8], u: &[u8], v: &[u8]) -> Line
+fn line_of_three(kind: &[u8], u: &[u8], v: &[u8]) -> Line
     ensures { λ r. ⌜ r ≡ lineOf (now (kind .entry) ∷ now (u .entry) ∷ now (v .entry) ∷ []) ⌝ }
 {
-    if !same(kind, b"delete") {
-        return Line::Unread;
-    }
-    let Number::Value(a) = number(u) else {
-        return Line::Unread;
-    };
-    let Number::Value(b) = number(v) else {
-        return Line::Unread;
-    };
-    Line::Edit {
-        kind: Kind::Delete,
-        u: a,
-        v: b,
-        c: 0,
-    }
+    edit_of(plain_kind(kind), number(u), number(v), Number::Value(0))
 }
 
 // A line of four words.
-fn four(kind: &[u8], u: &[u8], v: &[u8], c: &[u8]) -> Line
+fn line_of_four(kind: &[u8], u: &[u8], v: &[u8], c: &[u8]) -> Line
     ensures { λ r. ⌜ r ≡ lineOf (now (kind .entry) ∷ now (u .entry) ∷ now (v .entry) ∷ now (c .entry) ∷ []) ⌝ }
 {
-    let Number::Value(a) = number(u) else {
-        return Line::Unread;
-    };
-    let Number::Value(b) = number(v) else {
-        return Line::Unread;
-    };
-    let Number::Value(x) = number(c) else {
-        return Line::Unread;
-    };
-    if same(kind, b"insert") {
-        return Line::Edit {
-            kind: Kind::Insert,
-            u: a,
-            v: b,
-            c: x,
-        };
-    }
-    if same(kind, b"cheapen") {
-        return Line::Edit {
-            kind: Kind::Cheapen,
-            u: a,
-            v: b,
-            c: x,
-        };
-    }
-    Line::Unread
+    edit_of(costly_kind(kind), number(u), number(v), number(c))
 }
 
 // What a line says.
 pub fn line_of(line: &[u8]) -> Line
     ensures { λ r. ⌜ r ≡ lineOf (words (now (line .entry))) ⌝ }
 {
-    let k = cut(line, b' ');
+    let k = index_of(line, b' ');
     if k >= line.len() {
         return Line::Unread;
     }
     let first = &line[k + 1..];
-    let u = cut(first, b' ');
+    let u = index_of(first, b' ');
     if u >= first.len() {
         return Line::Unread;
     }
     let second = &first[u + 1..];
-    let v = cut(second, b' ');
+    let v = index_of(second, b' ');
     if v >= second.len() {
-        return three(&line[..k], &first[..u], second);
+        return line_of_three(&line[..k], &first[..u], second);
     }
     let third = &second[v + 1..];
-    if cut(third, b' ') < third.len() {
+    if index_of(third, b' ') < third.len() {
         return Line::Unread;
     }
-    four(&line[..k], &first[..u], &second[..v], third)
+    line_of_four(&line[..k], &first[..u], &second[..v], third)
 }

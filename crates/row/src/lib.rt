@@ -1,17 +1,15 @@
 // One source's row of a hall: the least time, the ways and the share of every stop.
 // Links are those of the masks: `out[u]` has bit t where the link u to t counts.
-pub mod masks;
 mod push;
-mod sets;
 mod settle;
-pub mod verify;
 
 ghost use mathlib.Core.Path.{_≡_};
 ghost use mathlib.Core.Bool.{not};
 ghost use lib.ListN.{length};
 ghost use Rattle.routes.specs.Route.{allTo};
-ghost use Rattle.row.specs.Promise.{masked, Task, Filled};
-ghost use Rattle.row.specs.Whole.{Wiped, within};
+ghost use Rattle.routes.specs.Stored.{Stored};
+ghost use Rattle.links.specs.Promise.{masked, Task};
+ghost use Rattle.row.specs.Promise.{Filled, within};
 
 // Writes the row of the source s. Answers whether some stop has more ways than the limit.
 pub fn fill(
@@ -47,7 +45,7 @@ pub fn fill(
 
 // Writes x everywhere.
 fn wipe(list: &mut [u32], x: u32)
-    ensures { λ _. ⌜ Wiped x (length (now (list .entry))) (now (list .entry)) (now (list .exit)) ⌝ }
+    ensures { λ _. ⌜ Stored (λ _. x) (length (now (list .entry))) (now (list .entry)) (now (list .exit)) ⌝ }
 {
     for t in 0..list.len() {
         list[t] = x;
@@ -56,7 +54,7 @@ fn wipe(list: &mut [u32], x: u32)
 
 // Writes 0 everywhere.
 fn clear(list: &mut [u64])
-    ensures { λ _. ⌜ Wiped 0 (length (now (list .entry))) (now (list .entry)) (now (list .exit)) ⌝ }
+    ensures { λ _. ⌜ Stored (λ _. 0) (length (now (list .entry))) (now (list .entry)) (now (list .exit)) ⌝ }
 {
     for t in 0..list.len() {
         list[t] = 0;

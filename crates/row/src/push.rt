@@ -1,9 +1,9 @@
 // The shares of a row, from far stops to near ones.
-use super::sets;
+use links::sets;
 ghost use mathlib.Core.Path.{_≡_};
 ghost use Prim.Native.Nat.{_<_};
 ghost use Rattle.routes.specs.Equations.{quotient};
-ghost use Rattle.row.specs.Owing.{Adds, Added, Waits, Paid};
+ghost use Rattle.row.specs.Paid.{Adds, Added, Waits, Paid};
 
 // Adds up the shares of the first k stops of an order. While a stop waits, its share holds what flows back to it.
 pub fn accumulate(
@@ -24,7 +24,7 @@ pub fn accumulate(
         let v = order[i];
         let w = ways[v];
         let flow = share[v];
-        let psi = once(scale, limit, w) + flow;
+        let psi = quotient(scale, limit, w) + flow;
         push(pred[v], psi, share);
         share[v] = (w as u64) * flow;
     }
@@ -44,7 +44,7 @@ fn push(to: u64, psi: u64, share: &mut [u64])
 }
 
 // What a stop of w ways itself adds: nothing where it is crowded.
-fn once(scale: u64, limit: u32, w: u32) -> u64
+fn quotient(scale: u64, limit: u32, w: u32) -> u64
     requires { ⌜ 0 < w ⌝ }
     ensures { λ r. ⌜ r ≡ quotient limit scale w ⌝ }
 {

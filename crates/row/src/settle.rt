@@ -1,13 +1,14 @@
 // Dijkstra's algorithm: stops are settled from near to far.
-use super::sets;
+use links::numbers;
+use links::sets;
 ghost use mathlib.Core.Path.{_≡_};
 ghost use mathlib.Core.Bool.{cond};
 ghost use Prim.Native.Nat.{suc, _+_, _<_, _≤_, min};
 ghost use lib.Dec.{ltb};
 ghost use lib.ListN.{length};
-ghost use Rattle.row.specs.Promise.{masked};
-ghost use Rattle.row.specs.Turns.{Ground, Begun, Settled};
-ghost use Rattle.row.specs.Sets.{Nearest, Below, Tally, sumOver, joinedBy, Offers, Offered};
+ghost use Rattle.links.specs.Promise.{masked, Below};
+ghost use Rattle.row.specs.Settled.{Ground, Begun, Settled};
+ghost use Rattle.row.specs.Steps.{Nearest, Tally, sumOver, joinedBy, Offers, Offered};
 
 // Settles every stop that the source reaches, keeps their order, and answers how many there are.
 pub fn settle(
@@ -56,7 +57,7 @@ fn nearest(time: &[u32], frontier: u64) -> usize
         let t = sets::lowest(left);
         let at = time[t];
         best = nearer(at, low, t, best);
-        low = lower(at, low);
+        low = numbers::min_u32(at, low);
         left = sets::rest(left);
     }
     best
@@ -84,7 +85,7 @@ fn tally(limit: u32, first: u32, from: u64, ways: &[u32]) -> u32
     count
 }
 
-// A count up to limit + 1. No sum of ways passes 1386.
+// A count up to limit + 1. No sum of ways into a stop passes 1386, 63 stops with 22 ways each.
 fn clamp(limit: u32, count: u32) -> u32
     requires { ⌜ count ≤ 1386 ⌝ }
     ensures { λ r. ⌜ r ≡ min (suc limit) count ⌝ }
@@ -105,23 +106,17 @@ fn relax(n: usize, b: usize, fresh: u64, cost: &[u32], time: &mut [u32], pred: &
         let t = sets::lowest(left);
         let via = at + cost[base + t];
         let old = time[t];
-        pred[t] = parents(via, old, bit, pred[t]);
-        time[t] = lower(via, old);
+        pred[t] = predecessors(via, old, bit, pred[t]);
+        time[t] = numbers::min_u32(via, old);
         left = sets::rest(left);
     }
 }
 
 // The predecessors of a stop of time `old` after the offer `via` of the stop of `bit`.
-fn parents(via: u32, old: u32, bit: u64, pred: u64) -> u64
+fn predecessors(via: u32, old: u32, bit: u64, pred: u64) -> u64
     ensures { λ r. ⌜ r ≡ joinedBy via old bit pred ⌝ }
 {
     let kept = if via < old { 0 } else { pred };
     let more = if via <= old { bit } else { 0 };
     kept | more
-}
-
-fn lower(via: u32, old: u32) -> u32
-    ensures { λ r. ⌜ r ≡ min via old ⌝ }
-{
-    if via < old { via } else { old }
 }

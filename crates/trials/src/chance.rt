@@ -1,7 +1,7 @@
 // Chance: a small generator of numbers, the same at each run.
 use super::places::CELLS;
-use super::places::cells;
-use super::places::put;
+use calls::entries::put;
+use calls::tables::cells;
 ghost use Prim.Native.Nat.{_<_};
 
 // The next number of the generator, below a limit; 0 where the limit is 0.

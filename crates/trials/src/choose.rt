@@ -1,12 +1,4 @@
 // The choice of a call and its arguments.
-use super::calls::Ask;
-use super::calls::CHECK;
-use super::calls::EMPTY;
-use super::calls::INSERT;
-use super::calls::READ;
-use super::calls::Tables;
-use super::calls::WORK;
-use super::calls::WRITE;
 use super::chance::apart;
 use super::chance::costs;
 use super::chance::draw;
@@ -14,17 +6,30 @@ use super::chance::once_in;
 use super::chance::some_cost;
 use super::image;
 use super::image::Image;
+use super::outcome::Ask;
 use super::places::BYTES;
 use super::places::CELLS;
-use super::places::STOPS;
-use super::places::at;
-use super::places::at_long;
 use super::places::byte;
-use super::places::cells;
-use super::places::place;
-use super::places::put;
 use super::places::put_byte;
-use super::places::put_long;
+use calls::call::AUDIT;
+use calls::call::CHEAPEN;
+use calls::call::Call;
+use calls::call::DELETE;
+use calls::call::EMPTY_HALL;
+use calls::call::IMAGE_CHECK;
+use calls::call::IMAGE_READ;
+use calls::call::IMAGE_WRITE;
+use calls::call::INSERT;
+use calls::call::WORK_OUT;
+use calls::call::plain;
+use calls::entries::at;
+use calls::entries::at_long;
+use calls::entries::put;
+use calls::entries::put_long;
+use calls::tables;
+use calls::tables::Tables;
+use calls::tables::cells;
+use calls::tables::place;
 use std::num::wrapping_add_u64;
 
 pub struct Pair(u64, u64);
@@ -47,15 +52,15 @@ pub fn stops(seed: &mut u64) -> u64 {
 pub fn call(seed: &mut u64) -> u64 {
     let x = draw(seed, 24);
     match x {
-        0..=4 => 3,
-        5..=7 => 4,
-        8..=11 => 5,
-        12..=14 => 1,
-        15 | 16 => 2,
-        17 | 18 => 6,
-        19..=21 => 7,
-        22 => 8,
-        _ => if once_in(seed, 4) { 0 } else { 3 },
+        0..=4 => INSERT,
+        5..=7 => CHEAPEN,
+        8..=11 => DELETE,
+        12..=14 => WORK_OUT,
+        15 | 16 => AUDIT,
+        17 | 18 => IMAGE_WRITE,
+        19..=21 => IMAGE_READ,
+        22 => IMAGE_CHECK,
+        _ => if once_in(seed, 4) { EMPTY_HALL } else { INSERT },
     }
 }
 
@@ -141,17 +146,22 @@ fn price(seed: &mut u64, u: u64, v: u64) -> u64 {
     }
 }
 
-// A cost table for work out: sometimes with an entry that it refuses.
-fn brought(seed: &mut u64, stops: u64) -> [u32; CELLS] {
-    let mut cost = costs(seed, stops);
+// Sometimes puts in an entry that work out refuses.
+fn blemish(seed: &mut u64, stops: u64, cost: &mut [u32; CELLS]) {
     if once_in(seed, 8) {
         let s = draw(seed, stops);
-        put(&mut cost, place(stops, s, s), 1 + draw(seed, 3));
+        put(cost, place(stops, s, s), 1 + draw(seed, 3));
     }
     if once_in(seed, 8) {
         let i = draw(seed, cells(stops) as u64);
-        put(&mut cost, i as usize, 65536);
+        put(cost, i as usize, 65536);
     }
+}
+
+// A cost table for work out.
+fn brought(seed: &mut u64, stops: u64) -> [u32; CELLS] {
+    let mut cost = costs(seed, stops);
+    blemish(seed, stops, &mut cost);
     cost
 }
 
@@ -242,11 +252,11 @@ fn buffer(seed: &mut u64, stops: u64, cost: [u32; CELLS], bytes: [u8; BYTES]) ->
 fn bytes(seed: &mut u64, call: u64, stops: u64, cost: [u32; CELLS]) -> Image {
     let mut bytes = [0u8; BYTES];
     match call {
-        READ | CHECK => {
+        IMAGE_READ | IMAGE_CHECK => {
             fill(seed, &mut bytes);
             some_image(seed, stops, cost, bytes)
         }
-        WRITE => {
+        IMAGE_WRITE => {
             fill(seed, &mut bytes);
             buffer(seed, stops, cost, bytes)
         }
@@ -256,25 +266,30 @@ fn bytes(seed: &mut u64, call: u64, stops: u64, cost: [u32; CELLS]) -> Image {
 
 // The cost table of a call.
 fn table(seed: &mut u64, call: u64, stops: u64) -> [u32; CELLS] {
-    if call == WORK {
+    if call == WORK_OUT {
         return brought(seed, stops);
     }
     [0; CELLS]
 }
 
 // The call with its arguments, on a hall with these costs.
-pub fn ask(seed: &mut u64, call: u64, stops: u64, cost: [u32; CELLS]) -> Ask {
-    let ends = ends(seed, call, stops, &cost);
-    let image = bytes(seed, call, stops, cost);
+pub fn ask(seed: &mut u64, number: u64, stops: u64, cost: [u32; CELLS]) -> Ask {
+    let ends = ends(seed, number, stops, &cost);
+    let image = bytes(seed, number, stops, cost);
     let bytes = image.bytes;
-    let table = table(seed, call, stops);
-    Ask {
-        call,
-        n: size(seed, stops),
-        odd: odd(seed),
+    let table = table(seed, number, stops);
+    let n = size(seed, stops);
+    let odd = odd(seed);
+    let call = Call {
+        number,
+        n,
         u: ends.0,
         v: ends.1,
-        c: price(seed, ends.0, ends.1),
+        cost: price(seed, ends.0, ends.1),
+    };
+    Ask {
+        call,
+        odd,
         cost: table,
         bytes,
         length: image.length,
@@ -283,15 +298,12 @@ pub fn ask(seed: &mut u64, call: u64, stops: u64, cost: [u32; CELLS]) -> Ask {
 
 // The empty hall with which a sequence starts.
 pub fn start(stops: u64) -> Ask {
+    let call = plain(EMPTY_HALL, stops);
     let cost = [0u32; CELLS];
     let bytes = [0u8; BYTES];
     Ask {
-        call: EMPTY,
-        n: stops,
+        call,
         odd: 0,
-        u: 0,
-        v: 0,
-        c: 0,
         cost,
         bytes,
         length: 0,
@@ -320,23 +332,15 @@ fn strange_cost(seed: &mut u64) -> u64 {
 }
 
 // Changes an entry of a table of 32 bits, if it is the one to change.
-fn change(seed: &mut u64, table: &mut [u32; CELLS], i: usize, here: bool) {
+fn change(seed: &mut u64, table: &mut [u32], i: usize, here: bool) {
     let x = strange(seed, at(table, i));
     if here {
         put(table, i, x);
     }
 }
 
-// The same for the shares.
-fn change_share(seed: &mut u64, table: &mut [u64; CELLS], i: usize, here: bool) {
-    let x = strange(seed, at_long(table, i));
-    if here {
-        put_long(table, i, x);
-    }
-}
-
-// The same for the scores.
-fn change_score(seed: &mut u64, table: &mut [u64; STOPS], i: usize, here: bool) {
+// The same for a table of 64 bits.
+fn change_long(seed: &mut u64, table: &mut [u64], i: usize, here: bool) {
     let x = strange(seed, at_long(table, i));
     if here {
         put_long(table, i, x);
@@ -344,11 +348,31 @@ fn change_score(seed: &mut u64, table: &mut [u64; STOPS], i: usize, here: bool) 
 }
 
 // The same for the cost table.
-fn change_cost(seed: &mut u64, table: &mut [u32; CELLS], i: usize, here: bool) {
+fn change_cost(seed: &mut u64, table: &mut [u32], i: usize, here: bool) {
     let x = strange_cost(seed);
     if here {
         put(table, i, x);
     }
+}
+
+// Changes one entry of five tables.
+fn spoil(
+    seed: &mut u64,
+    stops: u64,
+    cost: &mut [u32; tables::CELLS],
+    time: &mut [u32; tables::CELLS],
+    ways: &mut [u32; tables::CELLS],
+    share: &mut [u64; tables::CELLS],
+    score: &mut [u64; tables::STOPS],
+) {
+    let which = draw(seed, 5);
+    let i = draw(seed, cells(stops) as u64) as usize;
+    let v = draw(seed, stops) as usize;
+    change_cost(seed, cost, i, which == 0);
+    change(seed, time, i, which == 1);
+    change(seed, ways, i, which == 2);
+    change_long(seed, share, i, which == 3);
+    change_long(seed, score, v, which == 4);
 }
 
 // The tables with one entry changed.
@@ -358,14 +382,15 @@ pub fn spoiled(seed: &mut u64, stops: u64, t: Tables) -> Tables {
     let mut ways = t.ways;
     let mut share = t.share;
     let mut score = t.score;
-    let which = draw(seed, 5);
-    let i = draw(seed, cells(stops) as u64) as usize;
-    let v = draw(seed, stops) as usize;
-    change_cost(seed, &mut cost, i, which == 0);
-    change(seed, &mut time, i, which == 1);
-    change(seed, &mut ways, i, which == 2);
-    change_share(seed, &mut share, i, which == 3);
-    change_score(seed, &mut score, v, which == 4);
+    spoil(
+        seed,
+        stops,
+        &mut cost,
+        &mut time,
+        &mut ways,
+        &mut share,
+        &mut score,
+    );
     Tables {
         cost,
         time,

@@ -1,12 +1,12 @@
 // Images, written and read apart from the hall.
 use super::places::BYTES;
 use super::places::CELLS;
-use super::places::at;
 use super::places::byte;
-use super::places::cells;
-use super::places::place;
-use super::places::put;
 use super::places::put_byte;
+use calls::entries::at;
+use calls::entries::put;
+use calls::tables::cells;
+use calls::tables::place;
 use std::num::wrapping_add_usize;
 ghost use Prim.Native.Nat.{_≤_, _<_};
 

@@ -1,24 +1,25 @@
 // Sequences of calls at random on halls of one to seven stops. Each answer and each table is held
 // against a book of links, document 01's rules of refusal and the slow lister.
-mod calls;
 mod chance;
 mod choose;
 mod compare;
 mod image;
 mod model;
+mod outcome;
 mod places;
 mod tally;
 
-use calls::Ask;
-use calls::CHECK;
-use calls::Said;
-use calls::Tables;
-use calls::WORK;
+use calls::answer::Answer;
+use calls::call::IMAGE_CHECK;
+use calls::call::WORK_OUT;
+use calls::tables::Tables;
+use calls::tables::filled;
 use chance::draw;
 use chance::once_in;
 use model::Book;
+use outcome::Ask;
+use outcome::asked;
 use places::CELLS;
-use places::STOPS;
 use tally::ROOM;
 use tally::add;
 
@@ -32,13 +33,13 @@ struct State {
 }
 
 // Counts an answer, and what differs from its verdict.
-fn note(tally: &mut [u64; ROOM], call: u64, said: Said, differ: u64, ties: bool) {
-    tally::add_refusal(tally, call, said.refusal);
+fn note(tally: &mut [u64; ROOM], call: u64, answer: Answer, differ: u64, ties: bool) {
+    tally::add_refusal(tally, call, answer.refusal);
     add(tally, tally::ANSWERS, 1);
-    if call != CHECK {
+    if call != IMAGE_CHECK {
         add(tally, tally::TABLES, 5);
     }
-    add(tally, tally::TOUCHED, said.rows);
+    add(tally, tally::TOUCHED, answer.rows);
     tally::add_differences(tally, differ);
     if ties {
         add(tally, tally::TIES, 1);
@@ -55,16 +56,15 @@ fn trial(
     wrong: bool,
 ) -> State {
     let verdict = model::expect(ask, stops, book, wrong);
-    let answer = calls::make(ask, stops, tables);
-    let said = answer.said;
-    let left = answer.tables;
-    let right = verdict.said;
+    let made = asked(ask, stops, tables);
+    let answer = made.answer;
+    let left = made.tables;
+    let right = verdict.answer;
     let next = verdict.book;
-    let ways = next.ways;
     let refused = right.refusal != 0;
-    let differ = compare::differences(stops, tables, answer, verdict);
-    let ties = !refused & model::crowded(stops, &ways, 1);
-    note(tally, ask.call, said, differ, ties);
+    let differ = compare::differences(stops, tables, made, verdict);
+    let ties = !refused & model::crowded(stops, &next.ways, 1);
+    note(tally, ask.call.number, answer, differ, ties);
     State {
         book: next,
         hall: left,
@@ -84,8 +84,7 @@ fn spoiled_trial(
 ) -> State {
     add(tally, tally::SPOILED, 1);
     let tables = choose::spoiled(seed, stops, hall);
-    let cost = tables.cost;
-    let seen = model::book_of(stops, cost);
+    let seen = model::book_of(stops, outcome::costs(tables));
     if !compare::wrong(stops, tables, seen) {
         return trial(tally, ask, stops, seen, tables, false);
     }
@@ -106,7 +105,7 @@ fn step(seed: &mut u64, tally: &mut [u64; ROOM], stops: u64, state: State, call:
     let hall = state.hall;
     let cost = book.cost;
     let ask = choose::ask(seed, call, stops, cost);
-    if call != CHECK {
+    if call != IMAGE_CHECK {
         if once_in(seed, 8) {
             return spoiled_trial(seed, tally, ask, stops, book, hall);
         }
@@ -116,25 +115,13 @@ fn step(seed: &mut u64, tally: &mut [u64; ROOM], stops: u64, state: State, call:
 
 // An empty hall, over tables of any content.
 fn first(tally: &mut [u64; ROOM], stops: u64) -> State {
-    let cost = [7u32; CELLS];
-    let time = [8u32; CELLS];
-    let ways = [9u32; CELLS];
-    let share = [10u64; CELLS];
-    let score = [11u64; STOPS];
-    let junk = Tables {
-        cost,
-        time,
-        ways,
-        share,
-        score,
-    };
     let none = [0u32; CELLS];
     trial(
         tally,
         choose::start(stops),
         stops,
         model::book_of(stops, none),
-        junk,
+        filled(7, 7),
         true,
     )
 }
@@ -152,7 +139,7 @@ fn sequence(seed: &mut u64, tally: &mut [u64; ROOM]) {
     add(tally, tally::SEQUENCES, 1);
     let mut state = first(tally, stops);
     if once_in(seed, 2) {
-        state = step(seed, tally, stops, state, WORK);
+        state = step(seed, tally, stops, state, WORK_OUT);
     }
     let count = 20 + draw(seed, 21);
     steps(seed, tally, stops, state, count);

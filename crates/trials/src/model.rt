@@ -1,26 +1,28 @@
 // What a call must answer and leave: document 01's rules over a book of links, and the lister's
 // tables of these links.
-use super::calls::AUDIT;
-use super::calls::Ask;
-use super::calls::CHEAPEN;
-use super::calls::CHECK;
-use super::calls::DELETE;
-use super::calls::EMPTY;
-use super::calls::INSERT;
-use super::calls::READ;
-use super::calls::Said;
-use super::calls::WORK;
-use super::calls::WRITE;
 use super::image;
 use super::image::Image;
+use super::outcome::Ask;
 use super::places::BYTES;
 use super::places::CELLS;
 use super::places::STOPS;
-use super::places::at;
-use super::places::at_long;
-use super::places::cells;
-use super::places::place;
 use super::places::with;
+use calls::answer::Answer;
+use calls::answer::of_number;
+use calls::call::AUDIT;
+use calls::call::CHEAPEN;
+use calls::call::Call;
+use calls::call::DELETE;
+use calls::call::EMPTY_HALL;
+use calls::call::IMAGE_CHECK;
+use calls::call::IMAGE_READ;
+use calls::call::IMAGE_WRITE;
+use calls::call::INSERT;
+use calls::call::WORK_OUT;
+use calls::entries::at;
+use calls::entries::at_long;
+use calls::tables::cells;
+use calls::tables::place;
 
 // The costs of a book's links, and the lister's tables of them.
 pub struct Book {
@@ -33,7 +35,7 @@ pub struct Book {
 
 // What a call must say, and the book and the buffer after it.
 pub struct Verdict {
-    pub said: Said,
+    pub answer: Answer,
     pub book: Book,
     pub bytes: [u8; BYTES],
 }
@@ -90,35 +92,35 @@ pub fn crowded(n: u64, ways: &[u64; CELLS], limit: u64) -> bool {
 }
 
 // The cost of a link that is inserted or cheapened.
-fn bad_cost(call: u64, c: u64) -> bool {
-    if call == DELETE {
+fn bad_cost(call: Call) -> bool {
+    if call.number == DELETE {
         return false;
     }
-    if c == 0 {
+    if call.cost == 0 {
         return true;
     }
-    65535 < c
+    65535 < call.cost
 }
 
-fn bad_pair(n: u64, u: u64, v: u64) -> bool {
-    if n <= u {
+fn bad_pair(call: Call) -> bool {
+    if call.n <= call.u {
         return true;
     }
-    if n <= v {
+    if call.n <= call.v {
         return true;
     }
-    u == v
+    call.u == call.v
 }
 
 // Refusals 4 to 8 of an edit, where the present cost is 0 for no link.
-fn edit_refusal(call: u64, n: u64, u: u64, v: u64, c: u64, present: u64) -> u64 {
-    if bad_pair(n, u, v) {
+fn edit_refusal(call: Call, present: u64) -> u64 {
+    if bad_pair(call) {
         return 4;
     }
-    if bad_cost(call, c) {
+    if bad_cost(call) {
         return 5;
     }
-    if call == INSERT {
+    if call.number == INSERT {
         if present != 0 {
             return 6;
         }
@@ -127,8 +129,8 @@ fn edit_refusal(call: u64, n: u64, u: u64, v: u64, c: u64, present: u64) -> u64 
     if present == 0 {
         return 7;
     }
-    if call == CHEAPEN {
-        if present <= c {
+    if call.number == CHEAPEN {
+        if present <= call.cost {
             return 8;
         }
     }
@@ -136,20 +138,20 @@ fn edit_refusal(call: u64, n: u64, u: u64, v: u64, c: u64, present: u64) -> u64 
 }
 
 // Refusals 1 and 2: n, and the lengths of the tables.
-fn size_refusal(ask: Ask, stops: u64) -> u64 {
-    if ask.n == 0 {
+fn size_refusal(call: Call, odd: u64, stops: u64) -> u64 {
+    if call.n == 0 {
         return 1;
     }
-    if 64 < ask.n {
+    if 64 < call.n {
         return 1;
     }
-    if ask.call == CHECK {
+    if call.number == IMAGE_CHECK {
         return 0;
     }
-    if ask.n != stops {
+    if call.n != stops {
         return 2;
     }
-    if ask.odd != 0 {
+    if odd != 0 {
         return 2;
     }
     0
@@ -157,8 +159,7 @@ fn size_refusal(ask: Ask, stops: u64) -> u64 {
 
 // Refusal 5 of work out.
 fn work_refusal(ask: Ask, stops: u64) -> u64 {
-    let cost = ask.cost;
-    if bad_costs(stops, &cost) { 5 } else { 0 }
+    if bad_costs(stops, &ask.cost) { 5 } else { 0 }
 }
 
 // Refusal 9 of image read and image check.
@@ -168,7 +169,11 @@ fn image_refusal(ask: Ask) -> u64 {
         bytes,
         length: ask.length,
     };
-    if image::valid(ask.n, image) { 0 } else { 9 }
+    if image::valid(ask.call.n, image) {
+        0
+    } else {
+        9
+    }
 }
 
 // Refusal 10 of image write.
@@ -181,27 +186,26 @@ fn write_refusal(ask: Ask, stops: u64, cost: [u32; CELLS]) -> u64 {
 // Refusals 4 to 8 and 10, of the calls that audit the tables.
 fn held_refusal(ask: Ask, stops: u64, cost: [u32; CELLS]) -> u64 {
     let call = ask.call;
-    match call {
+    let number = call.number;
+    match number {
         AUDIT => 0,
-        WRITE => write_refusal(ask, stops, cost),
-        _ => {
-            let present = at(&cost, place(stops, ask.u, ask.v));
-            edit_refusal(call, stops, ask.u, ask.v, ask.c, present)
-        }
+        IMAGE_WRITE => write_refusal(ask, stops, cost),
+        _ => edit_refusal(call, at(&cost, place(stops, call.u, call.v))),
     }
 }
 
 // Refusals 1 to 10, by rising number; `wrong` says that the tables are not those of their hall.
 fn refusal(ask: Ask, stops: u64, cost: [u32; CELLS], wrong: bool) -> u64 {
-    let size = size_refusal(ask, stops);
+    let call = ask.call;
+    let size = size_refusal(call, ask.odd, stops);
     if size != 0 {
         return size;
     }
-    let call = ask.call;
-    match call {
-        EMPTY => 0,
-        WORK => work_refusal(ask, stops),
-        READ | CHECK => image_refusal(ask),
+    let number = call.number;
+    match number {
+        EMPTY_HALL => 0,
+        WORK_OUT => work_refusal(ask, stops),
+        IMAGE_READ | IMAGE_CHECK => image_refusal(ask),
         _ => if wrong {
             3
         } else {
@@ -213,13 +217,14 @@ fn refusal(ask: Ask, stops: u64, cost: [u32; CELLS], wrong: bool) -> u64 {
 // The costs that the call leaves where it is accepted.
 fn costs_after(ask: Ask, stops: u64, cost: [u32; CELLS]) -> [u32; CELLS] {
     let call = ask.call;
-    match call {
-        EMPTY => [0u32; CELLS],
-        WORK => {
+    let number = call.number;
+    match number {
+        EMPTY_HALL => [0u32; CELLS],
+        WORK_OUT => {
             let brought = ask.cost;
             brought
         }
-        READ => {
+        IMAGE_READ => {
             let bytes = ask.bytes;
             let image = Image {
                 bytes,
@@ -227,20 +232,15 @@ fn costs_after(ask: Ask, stops: u64, cost: [u32; CELLS]) -> [u32; CELLS] {
             };
             image::read(stops, image)
         }
-        DELETE => with(cost, place(stops, ask.u, ask.v), 0),
-        _ => with(cost, place(stops, ask.u, ask.v), ask.c),
+        DELETE => with(cost, place(stops, call.u, call.v), 0),
+        _ => with(cost, place(stops, call.u, call.v), call.cost),
     }
 }
 
 fn refused(refusal: u64, ask: Ask, book: Book) -> Verdict {
     let bytes = ask.bytes;
     Verdict {
-        said: Said {
-            refusal,
-            touched: 0,
-            rows: 0,
-            length: 0,
-        },
+        answer: of_number(refusal),
         book,
         bytes,
     }
@@ -252,14 +252,10 @@ fn wrote(ask: Ask, stops: u64, book: Book) -> Verdict {
     let cost = book.cost;
     let image = image::written(stops, cost, buffer);
     let bytes = image.bytes;
-    let length = image.length;
+    let mut answer = of_number(0);
+    answer.length = image.length as u64;
     Verdict {
-        said: Said {
-            refusal: 0,
-            touched: 0,
-            rows: 0,
-            length,
-        },
+        answer,
         book,
         bytes,
     }
@@ -268,8 +264,9 @@ fn wrote(ask: Ask, stops: u64, book: Book) -> Verdict {
 // The sources that an accepted edit touches.
 fn touched(ask: Ask, stops: u64, before: [u32; CELLS], after: [u32; CELLS]) -> u64 {
     let call = ask.call;
-    match call {
-        INSERT | CHEAPEN | DELETE => lister::touched(&before, &after, stops, ask.u, ask.v),
+    let number = call.number;
+    match number {
+        INSERT | CHEAPEN | DELETE => lister::touched(&before, &after, stops, call.u, call.v),
         _ => 0,
     }
 }
@@ -279,19 +276,16 @@ fn changed(ask: Ask, stops: u64, book: Book) -> Verdict {
     let before = book.cost;
     let after = costs_after(ask, stops, before);
     let next = book_of(stops, after);
-    let ways = next.ways;
-    if crowded(stops, &ways, WAYS) {
+    if crowded(stops, &next.ways, WAYS) {
         return refused(11, ask, book);
     }
     let set = touched(ask, stops, before, after);
     let bytes = ask.bytes;
+    let mut answer = of_number(0);
+    answer.touched = set;
+    answer.rows = lister::number(set);
     Verdict {
-        said: Said {
-            refusal: 0,
-            touched: set,
-            rows: lister::number(set),
-            length: 0,
-        },
+        answer,
         book: next,
         bytes,
     }
@@ -304,10 +298,10 @@ pub fn expect(ask: Ask, stops: u64, book: Book, wrong: bool) -> Verdict {
     if early != 0 {
         return refused(early, ask, book);
     }
-    let call = ask.call;
-    match call {
-        AUDIT | CHECK => refused(0, ask, book),
-        WRITE => wrote(ask, stops, book),
+    let number = ask.call.number;
+    match number {
+        AUDIT | IMAGE_CHECK => refused(0, ask, book),
+        IMAGE_WRITE => wrote(ask, stops, book),
         _ => changed(ask, stops, book),
     }
 }

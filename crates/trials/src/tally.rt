@@ -1,27 +1,39 @@
 // What is counted: the refusals of each call, and what was compared.
+use calls::call::AUDIT;
+use calls::call::CALLS;
+use calls::call::CHEAPEN;
+use calls::call::DELETE;
+use calls::call::EMPTY_HALL;
+use calls::call::IMAGE_CHECK;
+use calls::call::IMAGE_READ;
+use calls::call::IMAGE_WRITE;
+use calls::call::INSERT;
+use calls::call::WORK_OUT;
 use std::num::wrapping_add_u64;
 
-// Room for the refusals 0 to 11 of nine calls, and for the other counts.
-pub const ROOM: usize = 128;
+// The refusals 0 to 11 of each call, and behind them the other counts.
+const REFUSALS: usize = 12;
 
-pub const SEQUENCES: usize = 108;
+pub const SEQUENCES: usize = REFUSALS * CALLS;
 
-pub const ANSWERS: usize = 109;
+pub const ANSWERS: usize = SEQUENCES + 1;
 
-pub const TABLES: usize = 110;
+pub const TABLES: usize = SEQUENCES + 2;
 
-pub const DIFFERENCES: usize = 111;
+pub const DIFFERENCES: usize = SEQUENCES + 3;
 
 // The sources that accepted edits touched, and the accepted calls that leave a pair of several ways.
-pub const TOUCHED: usize = 112;
+pub const TOUCHED: usize = SEQUENCES + 4;
 
-pub const TIES: usize = 113;
+pub const TIES: usize = SEQUENCES + 5;
 
 // Calls on tables with an entry drawn anew, which may be the old one.
-pub const SPOILED: usize = 114;
+pub const SPOILED: usize = SEQUENCES + 6;
 
 // The number of the first answer with a difference.
-pub const FIRST: usize = 115;
+pub const FIRST: usize = SEQUENCES + 7;
+
+pub const ROOM: usize = SEQUENCES + 8;
 
 pub fn add(tally: &mut [u64; ROOM], i: usize, x: u64) {
     if i < ROOM {
@@ -46,25 +58,25 @@ pub fn add_differences(tally: &mut [u64; ROOM], differ: u64) {
 }
 
 // Where the tally has a refusal of a call.
-fn place(call: usize, refusal: usize) -> usize {
-    if 8 < call {
+fn place(call: u64, refusal: usize) -> usize {
+    if CALLS as u64 <= call {
         return ROOM;
     }
-    if 11 < refusal {
+    if REFUSALS <= refusal {
         return ROOM;
     }
-    12 * call + refusal
+    REFUSALS * call as usize + refusal
 }
 
 pub fn add_refusal(tally: &mut [u64; ROOM], call: u64, refusal: u64) {
-    add(tally, place(call as usize, refusal as usize), 1);
+    add(tally, place(call, refusal as usize), 1);
 }
 
 // A refusal, over all calls.
 fn total(tally: &[u64; ROOM], refusal: usize) -> u64 {
     let mut sum = 0;
-    for call in 0..9usize {
-        sum = wrapping_add_u64(sum, count(tally, place(call, refusal)));
+    for call in 0..CALLS {
+        sum = wrapping_add_u64(sum, count(tally, place(call as u64, refusal)));
     }
     sum
 }
@@ -79,7 +91,7 @@ fn line(name: &[u8], x: u64) {
 
 // Writes a line for each refusal.
 fn refusals(tally: &[u64; ROOM]) {
-    for refusal in 0..12usize {
+    for refusal in 0..REFUSALS {
         io::write_all(1, b"refusal ");
         io::print_decimal(1, refusal as u64);
         line(b"", total(tally, refusal));
@@ -87,9 +99,9 @@ fn refusals(tally: &[u64; ROOM]) {
 }
 
 // Writes a line of the refusals 0 to 11 of a call.
-fn refusals_of(name: &[u8], tally: &[u64; ROOM], call: usize) {
+fn refusals_of(name: &[u8], tally: &[u64; ROOM], call: u64) {
     io::write_all(1, name);
-    for refusal in 0..12usize {
+    for refusal in 0..REFUSALS {
         io::write_all(1, b" ");
         io::print_decimal(1, count(tally, place(call, refusal)));
     }
@@ -104,15 +116,15 @@ pub fn write(tally: &[u64; ROOM]) {
     line(b"accepted with ties", count(tally, TIES));
     line(b"entries drawn anew", count(tally, SPOILED));
     refusals(tally);
-    refusals_of(b"empty hall", tally, 0);
-    refusals_of(b"work out", tally, 1);
-    refusals_of(b"audit", tally, 2);
-    refusals_of(b"insert", tally, 3);
-    refusals_of(b"cheapen", tally, 4);
-    refusals_of(b"delete", tally, 5);
-    refusals_of(b"image write", tally, 6);
-    refusals_of(b"image read", tally, 7);
-    refusals_of(b"image check", tally, 8);
+    refusals_of(b"empty hall", tally, EMPTY_HALL);
+    refusals_of(b"work out", tally, WORK_OUT);
+    refusals_of(b"audit", tally, AUDIT);
+    refusals_of(b"insert", tally, INSERT);
+    refusals_of(b"cheapen", tally, CHEAPEN);
+    refusals_of(b"delete", tally, DELETE);
+    refusals_of(b"image write", tally, IMAGE_WRITE);
+    refusals_of(b"image read", tally, IMAGE_READ);
+    refusals_of(b"image check", tally, IMAGE_CHECK);
     line(b"differences", count(tally, DIFFERENCES));
     line(b"first in answer", count(tally, FIRST));
 }

@@ -1,21 +1,14 @@
--- `host::hall_image_write` hands on what the call ensures, with the number of its refusal.
+-- `host::hall_image_write` hands on what an image write ensures, with the number of its refusal.
 use borrow.Author.Needs.{needs}
 use mathlib.Core.Path.{refl}
-use Rattle.host.specs.Promise.{handed}
+use Rattle.host.proofs.Handing.{handed-write}
 use Rattle.host.proofs.hall_image_write.Statement.{statement}
 use Rattle.host.proofs.hall_image_write.Tie as tie
 
-image-write-requires : tie.Need-image-write-requires
-image-write-requires c κs = search needs
-
-code-requires : tie.Need-code-requires
-code-requires c κs = search needs
-
-same-length : tie.Need-same-length
-same-length c = search needs
-
 returns : tie.Need-returns
-returns c = handed (c .before .before .before .image-write .ensures) (c .code .ensures) refl refl refl refl
+returns c =
+    let number-of : tie.After-number-of = search in let image-write : tie.After-image-write = search in
+    handed-write (image-write .image-write .ensures) (number-of .number-of .ensures) refl
 
 pub hall-image-write-spec : {M : Type 1} → statement M
-hall-image-write-spec = tie.close (tie.spec image-write-requires code-requires same-length returns)
+hall-image-write-spec = tie.close (tie.spec (λ c κs. search needs) (λ c κs. search needs) (λ c. search needs) returns)

@@ -13,9 +13,6 @@ Inv-loop before after n u v n' tally₀ set₀ s₀ tally set s = (s ≤ n') × 
 abbrev μ-loop : tie.MeasureT-loop
 μ-loop before after n u v n' tally₀ set₀ s₀ tally set s = n' - s
 
-loop-holds : tie.Need-loop-holds Inv-loop μ-loop
-loop-holds c = (search needs, pow-pos _)
-
 loop-again : tie.Need-loop-again Inv-loop μ-loop
 loop-again c =
     let loop : tie.At-loop Inv-loop μ-loop = search in
@@ -34,13 +31,5 @@ pub touched-spec : {M : Type 1} → statement M
 touched-spec =
     tie.close
     (tie.spec
-    Inv-loop
-    μ-loop
-    (λ c κs. search needs)
-    loop-holds
-    (λ c κs. search needs)
-    (λ c κs. search needs)
-    (λ c. search needs)
-    (λ c. search needs)
-    loop-again
-    returns)
+    Inv-loop μ-loop (λ c κs. search needs) (λ c. (search needs, pow-pos _)) (λ c κs. search needs)
+    (λ c κs. search needs) (λ c. search needs) (λ c. search needs) loop-again returns)

@@ -15,8 +15,4 @@ returns : tie.Need-returns
 returns c = ap (bitOr (c .args .set)) (one-shifted (c .args .s) (c .pre))
 
 pub with-spec : {M : Type 1} → statement M
-with-spec =
-    tie.close
-    (tie.spec
-    (λ c. search needs)
-    returns)
+with-spec = tie.close (tie.spec (λ c. search needs) returns)

@@ -1,3 +1,5 @@
+-- `crowded` tells whether some stop has more ways than the limit.
+use borrow.Author.Needs.{needs}
 use Prim.Native.Nat.{_≤_, _-_}
 use mathlib.Core.Path.{_≡_, sym}
 use mathlib.Core.Bool.{not}
@@ -5,7 +7,8 @@ use native.Mathlib.Nat.{le-antisymm}
 use native.Mathlib.Omega.{arith}
 use lib.ListN.{length}
 use Rattle.routes.specs.Route.{allTo}
-use Rattle.row.specs.Whole.{within, crowded-none, crowded-more}
+use Rattle.row.specs.Promise.{within}
+use Rattle.row.proofs.Over.{crowded-none, crowded-more}
 use Rattle.row.proofs.crowded.Statement.{statement}
 use Rattle.row.proofs.crowded.Tie as tie
 
@@ -15,37 +18,19 @@ Inv-loop limit ways over₀ t₀ t-end over t = (t ≤ length ways) × (over ≡
 abbrev μ-loop : tie.MeasureT-loop
 μ-loop limit ways over₀ t₀ t-end over t = length ways - t
 
-loop-holds : tie.Need-loop-holds Inv-loop μ-loop
-loop-holds c = (omega arith, crowded-none (c .args .limit) (c .args .ways .now))
-
-mul-over : tie.Need-mul-over Inv-loop μ-loop
-mul-over c = omega (arith, (c .before .before) .good)
-
-shared-slice-read-over : tie.Need-shared-slice-read-over Inv-loop μ-loop
-shared-slice-read-over c = omega arith
-
-add-t : tie.Need-add-t Inv-loop μ-loop
-add-t c = omega arith
-
-loop-less : tie.Need-loop-less Inv-loop μ-loop
-loop-less c = omega arith
-
 loop-again : tie.Need-loop-again Inv-loop μ-loop
-loop-again c = (omega arith, rw ((c .before .before) .loop .inv .1) (sym (crowded-more ((c .before .before .before) .args .limit) ((c .before .before) .loop .t) ((c .before .before .before) .args .ways .now))))
+loop-again c =
+    let loop : tie.At-loop Inv-loop μ-loop = search in let start : tie.Start Inv-loop μ-loop = search in
+    (omega arith, rw (loop .loop .inv .1) (sym (crowded-more (start .args .limit) (loop .loop .t) (start .args .ways .now))))
 
 returns : tie.Need-returns Inv-loop μ-loop
-returns c = rw (le-antisymm ((c .before) .loop .inv .0) (c .loop-test .left)) at ((c .before) .loop .inv .1)
+returns c =
+    let loop : tie.At-loop Inv-loop μ-loop = search in
+    rw (le-antisymm (loop .loop .inv .0) (c .loop-test .left)) at (loop .loop .inv .1)
 
 pub crowded-spec : {M : Type 1} → statement M
 crowded-spec =
     tie.close
     (tie.spec
-    Inv-loop
-    μ-loop
-    loop-holds
-    mul-over
-    shared-slice-read-over
-    add-t
-    loop-less
-    loop-again
-    returns)
+    Inv-loop μ-loop (λ c. search (needs, crowded-none)) (λ c. omega arith) (λ c. omega arith) (λ c. omega arith)
+    (λ c. omega arith) loop-again returns)

@@ -1,103 +1,66 @@
+-- `fill` leaves the row: what it wiped, settled and pushed back comes together.
 use borrow.Author.Needs.{needs}
 use mathlib.Core.Path.{_∙_, sym}
 use native.Mathlib.Omega.{arith}
 use lib.ListN.{length-set}
-use Rattle.row.specs.Turns.{ground}
-use Rattle.row.specs.Whole.{begun, waits, filled}
-use borrow.Author.Needs.{needs}
-use borrow.Author.Needs.{needs}
-use borrow.Author.Needs.{needs}
+use Rattle.row.proofs.Turns.{ground}
+use Rattle.row.proofs.Whole.{begun, waits, filled}
 use Rattle.row.proofs.fill.Statement.{statement}
 use Rattle.row.proofs.fill.Tie as tie
 
-wipe-requires : tie.Need-wipe-requires
-wipe-requires c κs = search needs
-
-wipe-requires-2 : tie.Need-wipe-requires-2
-wipe-requires-2 c κs = search needs
-
-clear-requires : tie.Need-clear-requires
-clear-requires c κs = search needs
-
-mul-time : tie.Need-mul-time
-mul-time c = search needs
-
-slice-write-time : tie.Need-slice-write-time
-slice-write-time c = search needs
-
-mul-ways : tie.Need-mul-ways
-mul-ways c = search needs
-
-slice-write-ways : tie.Need-slice-write-ways
-slice-write-ways c = search needs
-
-slice-aggregate-settle : tie.Need-slice-aggregate-settle
-slice-aggregate-settle c = search needs
-
-slice-aggregate-settle-2 : tie.Need-slice-aggregate-settle-2
-slice-aggregate-settle-2 c = search needs
-
 settle-requires : tie.Need-settle-requires
-settle-requires c κs = (ground ((c .before .before .before .before .before .before .before .before .before .before .before .before .before .before .before .before .before .before .before .before) .pre .0), begun _ _ _ _ _ _ _ ((c .before .before .before .before .before .before .before .before .before .before .before .before .before .before .before .before .before .before .before .before) .pre .0 .source) ((c .before .before .before .before .before .before .before .before .before .before .before .before .before .before .before .before .before .before .before .before) .pre .0 .marked) ((c .before .before .before .before .before .before .before .before .before .before .before .before .before .before .before .before .before .before .before .before) .pre .1 .0) ((c .before .before .before .before .before .before .before .before .before .before .before .before .before .before .before .before .before .before .before .before) .pre .1 .1 .0) ((c .before .before .before .before .before .before .before .before .before .before .before .before .before .before) .wipe .ensures) ((c .before .before .before .before .before .before .before .before .before .before) .wipe2 .ensures))
-
-slice-aggregate-accumulate : tie.Need-slice-aggregate-accumulate
-slice-aggregate-accumulate c = search needs
-
-slice-aggregate-accumulate-2 : tie.Need-slice-aggregate-accumulate-2
-slice-aggregate-accumulate-2 c = search needs
+settle-requires c κs =
+    let wipe2 : tie.After-wipe2 = search in let wipe : tie.After-wipe = search in let start : tie.Start = search in
+    (ground (start .pre .0), begun _ _ _ _ _ _ _ (start .pre .0 .source) (start .pre .0 .marked) (start .pre .1 .0) (start .pre .1 .1 .0) (wipe .wipe .ensures) (wipe2 .wipe2 .ensures))
 
 accumulate-requires : tie.Need-accumulate-requires
 accumulate-requires c κs =
-    let b = begun _ _ _ _ _ _ _ ((c .before .before .before .before .before .before .before .before .before .before .before .before .before .before .before .before .before .before .before .before .before .before .before .before .before .before .before .before .before .before .before) .pre .0 .source) ((c .before .before .before .before .before .before .before .before .before .before .before .before .before .before .before .before .before .before .before .before .before .before .before .before .before .before .before .before .before .before .before) .pre .0 .marked) ((c .before .before .before .before .before .before .before .before .before .before .before .before .before .before .before .before .before .before .before .before .before .before .before .before .before .before .before .before .before .before .before) .pre .1 .0) ((c .before .before .before .before .before .before .before .before .before .before .before .before .before .before .before .before .before .before .before .before .before .before .before .before .before .before .before .before .before .before .before) .pre .1 .1 .0) ((c .before .before .before .before .before .before .before .before .before .before .before .before .before .before .before .before .before .before .before .before .before .before .before .before .before) .wipe .ensures) ((c .before .before .before .before .before .before .before .before .before .before .before .before .before .before .before .before .before .before .before .before .before) .wipe2 .ensures) in
-    waits _ _ _ _ _ _ _ _ _ _ _ _ ((c .before .before .before .before .before .before .before .before .before .before .before .before .before .before .before .before .before .before .before .before .before .before .before .before .before .before .before .before .before .before .before) .pre .0) ((c .before .before .before .before .before .before .before .before .before .before) .settle .ensures) _ _
-    ((c .before .before .before .before .before .before .before .before .before .before) .settle .kept .1 .1 .1 .1 .1 .1 .0 ∙ b .counted) ((c .before .before .before .before .before .before .before .before .before .before) .settle .kept .1 .1 .1 .1 .1 .1 .1 .0 ∙ b .room) ((c .before .before .before .before .before .before .before .before .before .before) .settle .kept .1 .1 .1 .1 .1 .1 .1 .1 .0 ∙ b .queue) ((c .before .before .before .before .before .before .before .before .before .before .before .before .before .before .before .before .before .before .before .before .before .before .before .before .before .before .before .before .before .before .before) .pre .1 .1 .1) ((c .before .before .before .before .before .before .before .before .before .before .before .before .before .before .before .before .before) .clear .ensures)
-
-mul-share : tie.Need-mul-share
-mul-share c = omega (arith, (c .before .before .before .before .before .before .before .before .before .before .before .before .before .before .before .before .before .before .before .before .before .before .before .before .before .before .before .before .before .before .before .before .before .before) .pre .0 .source, (c .before .before .before .before .before .before .before .before .before .before .before .before .before .before .before .before .before .before .before .before .before .before .before .before .before .before .before .before .before .before .before .before .before .before) .pre .0 .most)
+    let settle : tie.After-settle = search in let clear : tie.After-clear = search in
+    let wipe2 : tie.After-wipe2 = search in let wipe : tie.After-wipe = search in let start : tie.Start = search in
+    let b = begun _ _ _ _ _ _ _ (start .pre .0 .source) (start .pre .0 .marked) (start .pre .1 .0) (start .pre .1 .1 .0) (wipe .wipe .ensures) (wipe2 .wipe2 .ensures) in
+    waits _ _ _ _ _ _ _ _ _ _ _ _ (start .pre .0) (settle .settle .ensures) _ _
+    (settle .settle .kept .1 .1 .1 .1 .1 .1 .0 ∙ b .counted) (settle .settle .kept .1 .1 .1 .1 .1 .1 .1 .0 ∙ b .room) (settle .settle .kept .1 .1 .1 .1 .1 .1 .1 .1 .0 ∙ b .queue) (start .pre .1 .1 .1) (clear .clear .ensures)
 
 slice-write-share : tie.Need-slice-write-share
-slice-write-share c = omega (arith, (c .before .before) .accumulate .kept .1 .1 .1 .1 .1 .1 .0 ∙ (c .before .before .before .before .before .before .before .before .before .before .before .before .before .before .before .before .before .before .before .before) .clear .ensures .long ∙ (c .before .before .before .before .before .before .before .before .before .before .before .before .before .before .before .before .before .before .before .before .before .before .before .before .before .before .before .before .before .before .before .before .before .before) .pre .1 .1 .1, (c .before .before .before .before .before .before .before .before .before .before .before .before .before .before .before .before .before .before .before .before .before .before .before .before .before .before .before .before .before .before .before .before .before .before) .pre .0 .source)
-
-crowded-requires : tie.Need-crowded-requires
-crowded-requires c κs = search needs
+slice-write-share c =
+    let start : tie.Start = search in let clear = (let p : tie.After-clear = search in p .clear) in
+    let accumulate = (let p : tie.After-accumulate = search in p .accumulate) in
+    omega (arith, accumulate .kept .1 .1 .1 .1 .1 .1 .0 ∙ clear .ensures .long ∙ start .pre .1 .1 .1, start .pre .0 .source)
 
 same-length : tie.Need-same-length
-same-length c = (c .before .before .before .before .before .before .before .before .before .before .before .before .before .before .before) .settle .kept .1 .1 .1 .1 .1 .0 ∙ (begun _ _ _ _ _ _ _ ((c .before .before .before .before .before .before .before .before .before .before .before .before .before .before .before .before .before .before .before .before .before .before .before .before .before .before .before .before .before .before .before .before .before .before .before .before) .pre .0 .source) ((c .before .before .before .before .before .before .before .before .before .before .before .before .before .before .before .before .before .before .before .before .before .before .before .before .before .before .before .before .before .before .before .before .before .before .before .before) .pre .0 .marked) ((c .before .before .before .before .before .before .before .before .before .before .before .before .before .before .before .before .before .before .before .before .before .before .before .before .before .before .before .before .before .before .before .before .before .before .before .before) .pre .1 .0) ((c .before .before .before .before .before .before .before .before .before .before .before .before .before .before .before .before .before .before .before .before .before .before .before .before .before .before .before .before .before .before .before .before .before .before .before .before) .pre .1 .1 .0) ((c .before .before .before .before .before .before .before .before .before .before .before .before .before .before .before .before .before .before .before .before .before .before .before .before .before .before .before .before .before .before) .wipe .ensures) ((c .before .before .before .before .before .before .before .before .before .before .before .before .before .before .before .before .before .before .before .before .before .before .before .before .before .before) .wipe2 .ensures)) .timed ∙ sym ((c .before .before .before .before .before .before .before .before .before .before .before .before .before .before .before .before .before .before .before .before .before .before .before .before .before .before .before .before .before .before .before .before .before .before .before .before) .pre .1 .0)
+same-length c =
+    let settle : tie.After-settle = search in let wipe2 : tie.After-wipe2 = search in
+    let wipe : tie.After-wipe = search in let start : tie.Start = search in
+    settle .settle .kept .1 .1 .1 .1 .1 .0 ∙ (begun _ _ _ _ _ _ _ (start .pre .0 .source) (start .pre .0 .marked) (start .pre .1 .0) (start .pre .1 .1 .0) (wipe .wipe .ensures) (wipe2 .wipe2 .ensures)) .timed ∙ sym (start .pre .1 .0)
 
 same-length-2 : tie.Need-same-length-2
-same-length-2 c = (c .before .before .before .before .before .before .before .before .before .before .before .before .before .before .before) .settle .kept .1 .1 .1 .1 .1 .1 .0 ∙ (begun _ _ _ _ _ _ _ ((c .before .before .before .before .before .before .before .before .before .before .before .before .before .before .before .before .before .before .before .before .before .before .before .before .before .before .before .before .before .before .before .before .before .before .before .before) .pre .0 .source) ((c .before .before .before .before .before .before .before .before .before .before .before .before .before .before .before .before .before .before .before .before .before .before .before .before .before .before .before .before .before .before .before .before .before .before .before .before) .pre .0 .marked) ((c .before .before .before .before .before .before .before .before .before .before .before .before .before .before .before .before .before .before .before .before .before .before .before .before .before .before .before .before .before .before .before .before .before .before .before .before) .pre .1 .0) ((c .before .before .before .before .before .before .before .before .before .before .before .before .before .before .before .before .before .before .before .before .before .before .before .before .before .before .before .before .before .before .before .before .before .before .before .before) .pre .1 .1 .0) ((c .before .before .before .before .before .before .before .before .before .before .before .before .before .before .before .before .before .before .before .before .before .before .before .before .before .before .before .before .before .before) .wipe .ensures) ((c .before .before .before .before .before .before .before .before .before .before .before .before .before .before .before .before .before .before .before .before .before .before .before .before .before .before) .wipe2 .ensures)) .counted ∙ sym ((c .before .before .before .before .before .before .before .before .before .before .before .before .before .before .before .before .before .before .before .before .before .before .before .before .before .before .before .before .before .before .before .before .before .before .before .before) .pre .1 .1 .0)
+same-length-2 c =
+    let settle : tie.After-settle = search in let wipe2 : tie.After-wipe2 = search in
+    let wipe : tie.After-wipe = search in let start : tie.Start = search in
+    settle .settle .kept .1 .1 .1 .1 .1 .1 .0 ∙ (begun _ _ _ _ _ _ _ (start .pre .0 .source) (start .pre .0 .marked) (start .pre .1 .0) (start .pre .1 .1 .0) (wipe .wipe .ensures) (wipe2 .wipe2 .ensures)) .counted ∙ sym (start .pre .1 .1 .0)
 
 same-length-3 : tie.Need-same-length-3
-same-length-3 c = length-set ((c .before .before .before .before) .accumulate .last .1 .1 .1 .1 .1 .1 .0) ((c .before .before .before .before .before .before .before .before .before .before .before .before .before .before .before .before .before .before .before .before .before .before .before .before .before .before .before .before .before .before .before .before .before .before .before .before) .args .s) _ ∙ (c .before .before .before .before) .accumulate .kept .1 .1 .1 .1 .1 .1 .0 ∙ (c .before .before .before .before .before .before .before .before .before .before .before .before .before .before .before .before .before .before .before .before .before .before) .clear .ensures .long ∙ (c .before .before .before .before .before .before .before .before .before .before .before .before .before .before .before .before .before .before .before .before .before .before .before .before .before .before .before .before .before .before .before .before .before .before .before .before) .pre .1 .1 .1 ∙ sym ((c .before .before .before .before .before .before .before .before .before .before .before .before .before .before .before .before .before .before .before .before .before .before .before .before .before .before .before .before .before .before .before .before .before .before .before .before) .pre .1 .1 .1)
+same-length-3 c =
+    let start : tie.Start = (let c : tie.After-pred = search in search) in
+    let clear = (let p : tie.After-clear = search in p .clear) in
+    let accumulate = (let p : tie.After-accumulate = search in p .accumulate) in
+    length-set (accumulate .last .1 .1 .1 .1 .1 .1 .0) (start .args .s) _ ∙ accumulate .kept .1 .1 .1 .1 .1 .1 .0 ∙ clear .ensures .long ∙ start .pre .1 .1 .1 ∙ sym (start .pre .1 .1 .1)
 
 returns : tie.Need-returns
 returns c =
-    let b = begun _ _ _ _ _ _ _ ((c .before .before .before .before .before .before .before .before .before .before .before .before .before .before .before .before .before .before .before .before .before .before .before .before .before .before .before .before .before .before .before .before .before .before .before .before) .pre .0 .source) ((c .before .before .before .before .before .before .before .before .before .before .before .before .before .before .before .before .before .before .before .before .before .before .before .before .before .before .before .before .before .before .before .before .before .before .before .before) .pre .0 .marked) ((c .before .before .before .before .before .before .before .before .before .before .before .before .before .before .before .before .before .before .before .before .before .before .before .before .before .before .before .before .before .before .before .before .before .before .before .before) .pre .1 .0) ((c .before .before .before .before .before .before .before .before .before .before .before .before .before .before .before .before .before .before .before .before .before .before .before .before .before .before .before .before .before .before .before .before .before .before .before .before) .pre .1 .1 .0) ((c .before .before .before .before .before .before .before .before .before .before .before .before .before .before .before .before .before .before .before .before .before .before .before .before .before .before .before .before .before .before) .wipe .ensures) ((c .before .before .before .before .before .before .before .before .before .before .before .before .before .before .before .before .before .before .before .before .before .before .before .before .before .before) .wipe2 .ensures) in
-    filled _ _ _ _ _ _ _ _ _ _ _ _ ((c .before .before .before .before .before .before .before .before .before .before .before .before .before .before .before .before .before .before .before .before .before .before .before .before .before .before .before .before .before .before .before .before .before .before .before .before) .pre .0) ((c .before .before .before .before .before .before .before .before .before .before .before .before .before .before .before) .settle .ensures) ((c .before .before .before .before) .accumulate .last .1 .1 .1 .1 .1 .1 .0) _
-    ((c .before .before .before .before .before .before .before .before .before .before .before .before .before .before .before) .settle .kept .1 .1 .1 .1 .1 .0 ∙ b .timed) ((c .before .before .before .before .before .before .before .before .before .before .before .before .before .before .before) .settle .kept .1 .1 .1 .1 .1 .1 .0 ∙ b .counted) ((c .before .before .before .before) .accumulate .kept .1 .1 .1 .1 .1 .1 .0 ∙ (c .before .before .before .before .before .before .before .before .before .before .before .before .before .before .before .before .before .before .before .before .before .before) .clear .ensures .long ∙ (c .before .before .before .before .before .before .before .before .before .before .before .before .before .before .before .before .before .before .before .before .before .before .before .before .before .before .before .before .before .before .before .before .before .before .before .before) .pre .1 .1 .1) ((c .before .before .before .before .before .before .before .before .before .before .before .before .before .before .before) .settle .kept .1 .1 .1 .1 .1 .1 .1 .0 ∙ b .room) ((c .before .before .before .before .before .before .before .before .before .before .before .before .before .before .before) .settle .kept .1 .1 .1 .1 .1 .1 .1 .1 .0 ∙ b .queue)
-    ((c .before .before .before .before) .accumulate .ensures) (c .crowded .ensures)
+    let accumulate : tie.After-accumulate = search in let settle : tie.After-settle = search in
+    let clear : tie.After-clear = search in let wipe2 : tie.After-wipe2 = search in
+    let wipe : tie.After-wipe = search in let start : tie.Start = search in
+    let b = begun _ _ _ _ _ _ _ (start .pre .0 .source) (start .pre .0 .marked) (start .pre .1 .0) (start .pre .1 .1 .0) (wipe .wipe .ensures) (wipe2 .wipe2 .ensures) in
+    filled _ _ _ _ _ _ _ _ _ _ _ _ (start .pre .0) (settle .settle .ensures) (accumulate .accumulate .last .1 .1 .1 .1 .1 .1 .0) _
+    (settle .settle .kept .1 .1 .1 .1 .1 .0 ∙ b .timed) (settle .settle .kept .1 .1 .1 .1 .1 .1 .0 ∙ b .counted) (accumulate .accumulate .kept .1 .1 .1 .1 .1 .1 .0 ∙ clear .clear .ensures .long ∙ start .pre .1 .1 .1) (settle .settle .kept .1 .1 .1 .1 .1 .1 .1 .0 ∙ b .room) (settle .settle .kept .1 .1 .1 .1 .1 .1 .1 .1 .0 ∙ b .queue)
+    (accumulate .accumulate .ensures) (c .crowded .ensures)
 
 pub fill-spec : {M : Type 1} → statement M
 fill-spec =
     tie.close
     (tie.spec
-    wipe-requires
-    wipe-requires-2
-    clear-requires
-    mul-time
-    slice-write-time
-    mul-ways
-    slice-write-ways
-    slice-aggregate-settle
-    slice-aggregate-settle-2
-    settle-requires
-    slice-aggregate-accumulate
-    slice-aggregate-accumulate-2
-    accumulate-requires
-    mul-share
-    slice-write-share
-    crowded-requires
-    same-length
-    same-length-2
-    same-length-3
-    returns)
+    (λ c κs. search needs) (λ c κs. search needs) (λ c κs. search needs) (λ c. search needs) (λ c. search needs)
+    (λ c. search needs) (λ c. search needs) (λ c. search needs) (λ c. search needs) settle-requires
+    (λ c. search needs) (λ c. search needs) accumulate-requires (λ c. let start : tie.Start = search in omega arith)
+    slice-write-share (λ c κs. search needs) same-length same-length-2 same-length-3 returns)

@@ -1,118 +1,69 @@
 -- `audited::try_cost` leaves the tables of the new costs, or all of the old ones where a pair is crowded. Assumes nothing.
 use Prim.Native.Nat.{_+_}
-use mathlib.Core.Path.{_∙_}
 use mathlib.Core.Bool.{true≢false}
 use native.Mathlib.Omega.{arith}
 use lib.ListN.{length-set}
 use borrow.Author.Tests.{not-true, not-false}
 use borrow.Author.Needs.{needs}
-use Rattle.edits.specs.EditMasks.{put-back}
-use Rattle.edits.specs.EditLaws.{square′, valid′, square″, valid″, old-fits, lengths, comes, below, tried, tried-back}
+use Rattle.edits.proofs.Masks.{put-back}
+use Rattle.edits.proofs.Changes.{lengths, tried, tried-back}
+use Rattle.edits.proofs.Laws.{square′, valid′, square″, valid″, old-fits, comes, changes, below, stays}
 use Rattle.edits.proofs.audited.try_cost.Statement.{statement}
 use Rattle.edits.proofs.audited.try_cost.Tie as tie
 
-start-requires : tie.Need-start-requires
-start-requires c κs = (c .before .before .before .before .pre .0 .from, c .before .before .before .before .pre .0 .most)
-
-add-at : tie.Need-add-at
-add-at c = omega (arith, c .start .ensures, c .before .before .before .before .before .pre .0 .to)
-
-mul-old : tie.Need-mul-old
-mul-old c = omega (arith, c .start .ensures, c .before .before .before .before .before .pre .0 .to)
-
-slice-read-old : tie.Need-slice-read-old
-slice-read-old c = omega (arith, c .before .start .ensures, c .before .before .before .before .before .before .pre .0 .to, c .before .before .before .before .before .before .pre .0 .square)
-
-mul-cost : tie.Need-mul-cost
-mul-cost c = omega (arith, c .before .start .ensures, c .before .before .before .before .before .before .pre .0 .to)
-
-slice-write-cost : tie.Need-slice-write-cost
-slice-write-cost c = omega (arith, c .before .start .ensures, c .before .before .before .before .before .before .pre .0 .to, c .before .before .before .before .before .before .pre .0 .square)
-
-dearer-requires : tie.Need-dearer-requires
-dearer-requires c κs = search needs
-
 rework-requires : tie.Need-rework-requires
 rework-requires c κs =
-    let a = c .before .before .before .before .before .before .before .before .before .before .before .args in
-    let h = c .before .before .before .before .before .before .before .before .before .before .before .pre .0 in
-    rw (c .before .before .before .before .dearer .ensures, c .before .before .before .before .before .before .start .ensures .place) (
-      (h .most, square′ (a .n) (a .u) (a .v) (a .new) (a .cost .now) (a .time .now) (a .ways .now) (a .share .now) h, valid′ (a .n) (a .u) (a .v) (a .new) (a .cost .now) (a .time .now) (a .ways .now) (a .share .now) h, h .from, h .to),
-      (lengths (a .n) (a .u) (a .v) (a .new) (a .cost .now) (a .time .now) (a .ways .now) (a .share .now) h, (comes (a .n) (a .u) (a .v) (a .new) (a .cost .now) (a .time .now) (a .ways .now) (a .share .now) h, below (a .n) (a .u) (a .v) (a .new) (a .cost .now) (a .time .now) (a .ways .now) (a .share .now) h _ (c .before .before .before .before .before .before .before .before .before .before .before .pre .1))),
+    let dearer : tie.After-dearer = search in let start : tie.After-start = search in
+    let entry : tie.Start = search in
+    let h = entry .pre .1 .0 in
+    rw (dearer .dearer .ensures, start .start .ensures .place) (
+      entry .pre .0,
+      ((h .most, square′ h, valid′ h, h .from, h .to), (lengths (changes h), (comes h, below h _ (entry .pre .1 .1)))),
     )
-
-same-length : tie.Need-same-length
-same-length c = simp length-set
-
-same-length-2 : tie.Need-same-length-2
-same-length-2 c = c .before .before .before .before .before .before .before .rework .kept .1 .1 .1 .1 .1 .1 .0
-
-same-length-3 : tie.Need-same-length-3
-same-length-3 c = c .before .before .before .before .before .before .before .rework .kept .1 .1 .1 .1 .1 .1 .1 .0
-
-same-length-4 : tie.Need-same-length-4
-same-length-4 c = c .before .before .before .before .before .before .before .rework .kept .1 .1 .1 .1 .1 .1 .1 .1 .0
 
 returns : tie.Need-returns
 returns c =
-    let a = c .before .before .before .before .before .before .before .before .before .before .before .before .before .before .before .before .before .before .before .args in
-    let h = c .before .before .before .before .before .before .before .before .before .before .before .before .before .before .before .before .before .before .before .pre .0 in
-    let l = lengths (a .n) (a .u) (a .v) (a .new) (a .cost .now) (a .time .now) (a .ways .now) (a .share .now) h in
-    let k = c .before .before .before .before .before .before .before .rework .kept in
-    let r = rw (c .before .before .before .before .before .before .before .before .before .before .before .before .dearer .ensures, c .before .before .before .before .before .before .before .before .before .before .before .before .before .before .start .ensures .place) at (c .before .before .before .before .before .before .before .rework .ensures) in (
-      tried (a .n) (a .u) (a .v) (a .new) (a .cost .now) (a .time .now) (a .ways .now) (a .share .now) h _ (c .before .before .before .before .before .before .before .before .before .before .before .before .before .before .before .before .before .before .before .pre .1) _ _ _ _ r (not-true _ (c .if1 .taken)) (record { times = k .1 .1 .1 .1 .1 .1 .0 ∙ l .times; counts = k .1 .1 .1 .1 .1 .1 .1 .0 ∙ l .counts; shares = k .1 .1 .1 .1 .1 .1 .1 .1 .0 ∙ l .shares }),
-      rw (c .before .before .before .before .before .before .before .before .before .before .before .before .before .before .start .ensures .place),
+    let rework : tie.After-rework = search in let dearer : tie.After-dearer = search in
+    let start : tie.After-start = search in let entry : tie.Start = search in
+    let h = entry .pre .1 .0 in
+    let r = rw (dearer .dearer .ensures, start .start .ensures .place) at (rework .rework .ensures) in (
+      tried (changes h) _ (stays h _ (entry .pre .1 .1)) _ _ _ _ r (not-true _ (c .if1 .taken)),
+      rw (start .start .ensures .place),
     )
 
-mul-cost-2 : tie.Need-mul-cost-2
-mul-cost-2 c = omega (arith, c .before .before .before .before .before .before .before .before .before .before .before .before .before .before .start .ensures, c .before .before .before .before .before .before .before .before .before .before .before .before .before .before .before .before .before .before .before .pre .0 .to)
-
 slice-write-cost-2 : tie.Need-slice-write-cost-2
-slice-write-cost-2 c = simp length-set (omega (arith, c .before .before .before .before .before .before .before .before .before .before .before .before .before .before .start .ensures, c .before .before .before .before .before .before .before .before .before .before .before .before .before .before .before .before .before .before .before .pre .0 .to, c .before .before .before .before .before .before .before .before .before .before .before .before .before .before .before .before .before .before .before .pre .0 .square))
+slice-write-cost-2 c =
+    let start : tie.After-start = search in let entry : tie.Start = search in
+    simp length-set (omega (arith, start .start .ensures, entry .pre .1 .0 .to, entry .pre .1 .0 .square))
 
 rework-requires-2 : tie.Need-rework-requires-2
 rework-requires-2 c κs =
-    let a = c .before .before .before .before .before .before .before .before .before .before .before .before .before .before .before .before .before .before .before .before .before .before .before .args in
-    let h = c .before .before .before .before .before .before .before .before .before .before .before .before .before .before .before .before .before .before .before .before .before .before .before .pre .0 in
-    let l = lengths (a .n) (a .u) (a .v) (a .new) (a .cost .now) (a .time .now) (a .ways .now) (a .share .now) h in
-    let k = c .before .before .before .before .before .before .before .before .before .before .before .rework .kept in
-    let small = old-fits (a .n) (a .u) (a .v) (a .new) (a .cost .now) (a .time .now) (a .ways .now) (a .share .now) h in
-    rw (c .before .before .before .before .before .before .before .before .before .before .before .before .before .before .before .before .before .before .start .ensures .place) (
-      (h .most, square″ (a .n) (a .u) (a .v) (a .new) (a .cost .now) (a .time .now) (a .ways .now) (a .share .now) h _, valid″ (a .n) (a .u) (a .v) (a .new) (a .cost .now) (a .time .now) (a .ways .now) (a .share .now) h _ (omega arith), h .from, h .to),
+    let rework : tie.After-rework = search in let start : tie.After-start = search in
+    let entry : tie.Start = search in
+    let h = entry .pre .1 .0 in
+    let small = old-fits h in
+    rw (start .start .ensures .place) (
+      entry .pre .0,
       (
-        record { times = k .1 .1 .1 .1 .1 .1 .0 ∙ l .times; counts = k .1 .1 .1 .1 .1 .1 .1 .0 ∙ l .counts; shares = k .1 .1 .1 .1 .1 .1 .1 .1 .0 ∙ l .shares },
-        (λ e. absurd (true≢false e), below (a .n) (a .u) (a .v) (a .new) (a .cost .now) (a .time .now) (a .ways .now) (a .share .now) h _ (c .before .before .before .before .before .before .before .before .before .before .before .before .before .before .before .before .before .before .before .before .before .before .before .pre .1)),
+        (h .most, square″ h _, valid″ h _ (omega arith), h .from, h .to),
+        (
+          rework .rework .ensures .filled .lengths,
+          (λ e. absurd (true≢false e), below h _ (entry .pre .1 .1)),
+        ),
       ),
     )
 
-same-length-5 : tie.Need-same-length-5
-same-length-5 c = simp length-set
-
-same-length-6 : tie.Need-same-length-6
-same-length-6 c = c .before .before .before .before .before .before .rework2 .kept .1 .1 .1 .1 .1 .1 .0 ∙ c .before .before .before .before .before .before .before .before .before .before .before .before .before .before .before .before .before .before .rework .kept .1 .1 .1 .1 .1 .1 .0
-
-same-length-7 : tie.Need-same-length-7
-same-length-7 c = c .before .before .before .before .before .before .rework2 .kept .1 .1 .1 .1 .1 .1 .1 .0 ∙ c .before .before .before .before .before .before .before .before .before .before .before .before .before .before .before .before .before .before .rework .kept .1 .1 .1 .1 .1 .1 .1 .0
-
-same-length-8 : tie.Need-same-length-8
-same-length-8 c = c .before .before .before .before .before .before .rework2 .kept .1 .1 .1 .1 .1 .1 .1 .1 .0 ∙ c .before .before .before .before .before .before .before .before .before .before .before .before .before .before .before .before .before .before .rework .kept .1 .1 .1 .1 .1 .1 .1 .1 .0
-
 returns-2 : tie.Need-returns-2
 returns-2 c =
-    let a = c .before .before .before .before .before .before .before .before .before .before .before .before .before .before .before .before .before .before .before .before .before .before .before .before .before .before .before .before .before .before .args in
-    let h = c .before .before .before .before .before .before .before .before .before .before .before .before .before .before .before .before .before .before .before .before .before .before .before .before .before .before .before .before .before .before .pre .0 in
-    let l = lengths (a .n) (a .u) (a .v) (a .new) (a .cost .now) (a .time .now) (a .ways .now) (a .share .now) h in
-    let k = c .before .before .before .before .before .before .before .before .before .before .before .before .before .before .before .before .before .before .rework .kept in
-    let k′ = c .before .before .before .before .before .before .rework2 .kept in
-    let place = c .before .before .before .before .before .before .before .before .before .before .before .before .before .before .before .before .before .before .before .before .before .before .before .before .before .start in
+    let rework2 : tie.After-rework2 = search in let if1 : tie.Else1 = search in
+    let rework : tie.After-rework = search in let dearer : tie.After-dearer = search in
+    let start : tie.After-start = search in let entry : tie.Start = search in
+    let a = entry .args in
+    let h = entry .pre .1 .0 in
+    let place = start .start in
     let costs = put-back (a .cost .now) (place .result + a .v) (a .new) in
-    let r = rw (c .before .before .before .before .before .before .before .before .before .before .before .before .before .before .before .before .before .before .before .before .before .before .before .dearer .ensures, place .ensures .place) at (c .before .before .before .before .before .before .before .before .before .before .before .before .before .before .before .before .before .before .rework .ensures) in (
-      tried-back (a .n) (a .u) (a .v) (a .new) (a .cost .now) (a .time .now) (a .ways .now) (a .share .now) h _ (c .before .before .before .before .before .before .before .before .before .before .before .before .before .before .before .before .before .before .before .before .before .before .before .before .before .before .before .before .before .before .pre .1) _ _ _ _ r _ _ _ _ _ (c .before .before .before .before .before .before .rework2 .ensures) costs (not-false _ (c .before .before .before .before .before .before .before .before .before .before .before .if1 .left))
-          (record {
-            times = k′ .1 .1 .1 .1 .1 .1 .0 ∙ k .1 .1 .1 .1 .1 .1 .0 ∙ l .times;
-            counts = k′ .1 .1 .1 .1 .1 .1 .1 .0 ∙ k .1 .1 .1 .1 .1 .1 .1 .0 ∙ l .counts;
-            shares = k′ .1 .1 .1 .1 .1 .1 .1 .1 .0 ∙ k .1 .1 .1 .1 .1 .1 .1 .1 .0 ∙ l .shares;
-          }),
+    let r = rw (dearer .dearer .ensures, place .ensures .place) at (rework .rework .ensures) in (
+      tried-back (changes h) _ (stays h _ (entry .pre .1 .1)) _ _ _ _ r _ _ _ _ _ (rework2 .rework2 .ensures) costs (not-false _ (if1 .if1 .left)),
       costs,
     )
 
@@ -120,24 +71,7 @@ pub try-cost-spec : {M : Type 1} → statement M
 try-cost-spec =
     tie.close
     (tie.spec
-    start-requires
-    add-at
-    mul-old
-    slice-read-old
-    mul-cost
-    slice-write-cost
-    dearer-requires
-    rework-requires
-    same-length
-    same-length-2
-    same-length-3
-    same-length-4
-    returns
-    mul-cost-2
-    slice-write-cost-2
-    rework-requires-2
-    same-length-5
-    same-length-6
-    same-length-7
-    same-length-8
-    returns-2)
+    (λ c κs. search needs) (λ c. omega arith) (λ c. omega arith) (λ c. omega arith) (λ c. omega arith)
+    (λ c. omega arith) (λ c κs. search needs) rework-requires (λ c. simp length-set) (λ c. search needs)
+    (λ c. search needs) (λ c. search needs) returns (λ c. omega arith) slice-write-cost-2 rework-requires-2
+    (λ c. simp length-set) (λ c. search needs) (λ c. search needs) (λ c. search needs) returns-2)

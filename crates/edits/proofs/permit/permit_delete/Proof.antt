@@ -5,10 +5,10 @@ use Rattle.edits.proofs.permit.permit_delete.Statement.{statement}
 use Rattle.edits.proofs.permit.permit_delete.Tie as tie
 
 returns : tie.Need-returns
-returns c = rw (le-ltb 0 (c .before .args .present) (omega (arith, c .if1 .taken)))
+returns c = let start : tie.Start = search in rw (le-ltb 0 (start .args .present) (omega (arith, c .if1 .taken)))
 
 returns-2 : tie.Need-returns-2
-returns-2 c = rw (lt-ltb 0 (c .before .args .present) (omega (arith, c .if1 .left)))
+returns-2 c = let start : tie.Start = search in rw (lt-ltb 0 (start .args .present) (omega (arith, c .if1 .left)))
 
 pub permit-delete-spec : {M : Type 1} → statement M
 permit-delete-spec = tie.close (tie.spec returns returns-2)

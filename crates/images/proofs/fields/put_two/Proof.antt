@@ -9,24 +9,6 @@ use Rattle.book.specs.Hall.{lowFirst}
 use Rattle.images.proofs.fields.put_two.Statement.{statement}
 use Rattle.images.proofs.fields.put_two.Tie as tie
 
-cast-bytes : tie.Need-cast-bytes
-cast-bytes c = search needs
-
-slice-write-bytes : tie.Need-slice-write-bytes
-slice-write-bytes c = search needs
-
-cast-bytes-2 : tie.Need-cast-bytes-2
-cast-bytes-2 c = search needs
-
-add-bytes : tie.Need-add-bytes
-add-bytes c = search needs
-
-slice-write-bytes-2 : tie.Need-slice-write-bytes-2
-slice-write-bytes-2 c = simp length-set (omega arith)
-
-same-length : tie.Need-same-length
-same-length c = search needs
-
 returns : tie.Need-returns
 unfolding lowFirst
 returns c = let high : c .args .x / 256 % 256 ≡ c .args .x / 256 = omega arith in rw (high, add-one)
@@ -35,10 +17,5 @@ pub put-two-spec : {M : Type 1} → statement M
 put-two-spec =
     tie.close
     (tie.spec
-    cast-bytes
-    slice-write-bytes
-    cast-bytes-2
-    add-bytes
-    slice-write-bytes-2
-    same-length
-    returns)
+    (λ c. search needs) (λ c. search needs) (λ c. search needs) (λ c. search needs)
+    (λ c. simp length-set (omega arith)) (λ c. search needs) returns)

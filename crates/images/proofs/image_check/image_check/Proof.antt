@@ -29,4 +29,6 @@ returns-3 c =
 
 pub image-check-spec : {M : Type 1} → statement M
 image-check-spec =
-    tie.close (tie.spec (λ c κs. search needs) returns (λ c κs. search needs) returns-2 returns-3)
+    tie.close
+    (tie.spec
+    (λ c κs. search needs) returns (λ c κs. search needs) returns-2 returns-3)

@@ -6,8 +6,8 @@ use native.Mathlib.Numerals.{add-one}
 use native.Mathlib.Omega.{arith}
 use Rattle.routes.specs.Route.{allTo}
 use Rattle.book.specs.Hall.{validRecord}
-use Rattle.book.specs.RecordLaws.{leastKey, valid-tests}
-use Rattle.images.specs.ImagePromise.{linkAt}
+use Rattle.book.proofs.Records.{leastKey, valid-tests}
+use Rattle.images.specs.Promise.{linkAt}
 use Rattle.images.proofs.image_check.links_rise.Statement.{statement}
 use Rattle.images.proofs.image_check.links_rise.Tie as tie
 
@@ -21,49 +21,25 @@ loop-holds : tie.Need-loop-holds Inv-loop μ-loop
 unfolding allTo
 loop-holds c = (omega arith, refl, refl)
 
-mul-at : tie.Need-mul-at Inv-loop μ-loop
-mul-at c = omega arith
-
-is-link-requires : tie.Need-is-link-requires Inv-loop μ-loop
-is-link-requires c κs = omega arith
-
-key-requires : tie.Need-key-requires Inv-loop μ-loop
-key-requires c κs = omega arith
-
-add-least : tie.Need-add-least Inv-loop μ-loop
-add-least c = omega arith
-
-add-i : tie.Need-add-i Inv-loop μ-loop
-add-i c = omega arith
-
-loop-less : tie.Need-loop-less Inv-loop μ-loop
-loop-less c = omega arith
-
 loop-again : tie.Need-loop-again Inv-loop μ-loop
 unfolding allTo
 loop-again c =
-    let t = c .before .before .before .loop in
-    let a = c .before .before .before .before .before .args in
-    let here = c .before .is-link .ensures ∙ ap (linkAt (a .n) (a .image .now) (4 * t .i)) (t .inv .2) ∙ sym (valid-tests (a .n) (a .image .now) (t .i)) in
+    let is-link : tie.After-is-link Inv-loop μ-loop = search in let loop : tie.At-loop Inv-loop μ-loop = search in
+    let start : tie.Start Inv-loop μ-loop = search in
+    let t = loop .loop in
+    let a = start .args in
+    let here = is-link .is-link .ensures ∙ ap (linkAt (a .n) (a .image .now) (4 * t .i)) (t .inv .2) ∙ sym (valid-tests (a .n) (a .image .now) (t .i)) in
     (omega arith, rw (add-one (t .i)) (ap₂ _&&_ (t .inv .1) here), rw (add-one (t .i)) (omega arith))
 
 returns : tie.Need-returns Inv-loop μ-loop
 returns c =
-    let end : c .before .loop .i ≡ c .before .before .before .args .links = omega arith in
-    rw end at (c .before .loop .inv .1)
+    let loop : tie.At-loop Inv-loop μ-loop = search in let start : tie.Start Inv-loop μ-loop = search in
+    let end : loop .loop .i ≡ start .args .links = omega arith in
+    rw end at (loop .loop .inv .1)
 
 pub links-rise-spec : {M : Type 1} → statement M
 links-rise-spec =
     tie.close
     (tie.spec
-    Inv-loop
-    μ-loop
-    loop-holds
-    mul-at
-    is-link-requires
-    key-requires
-    add-least
-    add-i
-    loop-less
-    loop-again
-    returns)
+    Inv-loop μ-loop loop-holds (λ c. omega arith) (λ c κs. omega arith) (λ c κs. omega arith) (λ c. omega arith)
+    (λ c. omega arith) (λ c. omega arith) loop-again returns)

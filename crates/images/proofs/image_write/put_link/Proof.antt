@@ -13,19 +13,18 @@ returns c = rw (c .if1 .taken) (omega arith, refl)
 
 put-record-requires : tie.Need-put-record-requires
 put-record-requires c κs =
-    let there : ltb 0 (c .before .before .before .args .cost) ≡ true = lt-ltb 0 (c .before .before .before .args .cost) (omega arith) in
-    omega (arith, rw there at (c .before .before .before .pre .3))
-
-add-result : tie.Need-add-result
-add-result c = search needs
-
-same-length : tie.Need-same-length
-same-length c = search needs
+    let start : tie.Start = search in
+    let there : ltb 0 (start .args .cost) ≡ true = lt-ltb 0 (start .args .cost) (omega arith) in
+    omega (arith, rw there at (start .pre .3))
 
 returns-2 : tie.Need-returns-2
 returns-2 c =
-    let there : ltb 0 (c .before .before .before .before .before .before .args .cost) ≡ true = lt-ltb 0 (c .before .before .before .before .before .before .args .cost) (omega arith) in
-    rw there (omega arith, c .before .before .put-record .ensures)
+    let put-record : tie.After-put-record = search in let start : tie.Start = search in
+    let there : ltb 0 (start .args .cost) ≡ true = lt-ltb 0 (start .args .cost) (omega arith) in
+    rw there (omega arith, put-record .put-record .ensures)
 
 pub put-link-spec : {M : Type 1} → statement M
-put-link-spec = tie.close (tie.spec returns put-record-requires add-result same-length returns-2)
+put-link-spec =
+    tie.close
+    (tie.spec
+    returns put-record-requires (λ c. search needs) (λ c. search needs) returns-2)

@@ -1,12 +1,13 @@
 -- `put_row`: the loop keeps what a writer has stored of the pairs passed.
+use borrow.Author.Needs.{needs}
 use Prim.Native.Nat.{_+_, _*_, _-_, _≤_}
-use mathlib.Core.Path.{_≡_, refl, _∙_, ap}
+use mathlib.Core.Path.{_≡_, _∙_, ap}
 use native.Mathlib.Omega.{arith}
 use lib.ListN.{length, getD}
 use Rattle.book.specs.Hall.{entry}
-use Rattle.book.specs.TableLaws.{valid-costs}
-use Rattle.images.specs.ImagePromise.{linkBit, Wrote}
-use Rattle.images.specs.Writer.{wrote-none, wrote-on, wrote-row, pair-fits, wrote-pair}
+use Rattle.book.proofs.Tables.{valid-costs}
+use Rattle.images.specs.Promise.{linkBit, Wrote}
+use Rattle.images.proofs.Writer.{wrote-none, wrote-on, wrote-row, pair-fits, wrote-pair}
 use Rattle.images.proofs.image_write.put_row.Statement.{statement}
 use Rattle.images.proofs.image_write.put_row.Tie as tie
 
@@ -19,63 +20,52 @@ abbrev μ-loop : tie.MeasureT-loop
 
 -- the cost that is read is that of the pair, whose record has room
 same : (c : tie.In-loop Inv-loop μ-loop) →
-    let a = c .before .before .before .before .before .args in
-    getD (a .cost .now) (c .before .before .start .result + c .before .loop .v) 0 ≡ entry (a .n) (a .cost .now) (a .u) (c .before .loop .v)
-same c = let a = c .before .before .before .before .before .args in ap (λ r. getD (a .cost .now) (r + c .before .loop .v) 0) (c .before .before .start .ensures .place)
+    let loop : tie.At-loop Inv-loop μ-loop = search in let start : tie.After-start Inv-loop μ-loop = search in
+    let at-entry : tie.Start Inv-loop μ-loop = search in
+    let a = at-entry .args in
+    getD (a .cost .now) (start .start .result + loop .loop .v) 0 ≡ entry (a .n) (a .cost .now) (a .u) (loop .loop .v)
+same c =
+    let loop : tie.At-loop Inv-loop μ-loop = search in let start : tie.After-start Inv-loop μ-loop = search in
+    let entry : tie.Start Inv-loop μ-loop = search in
+    let a = entry .args in ap (λ r. getD (a .cost .now) (r + loop .loop .v) 0) (start .start .ensures .place)
 
 room : (c : tie.In-loop Inv-loop μ-loop) →
-    let a = c .before .before .before .before .before .args in
-    c .before .loop .at + 4 * linkBit (getD (a .cost .now) (c .before .before .start .result + c .before .loop .v) 0) ≤ length (c .before .loop .buffer)
+    let loop : tie.At-loop Inv-loop μ-loop = search in let start : tie.After-start Inv-loop μ-loop = search in
+    let entry : tie.Start Inv-loop μ-loop = search in
+    let a = entry .args in
+    loop .loop .at + 4 * linkBit (getD (a .cost .now) (start .start .result + loop .loop .v) 0) ≤ length (loop .loop .buffer)
 room c =
-    let a = c .before .before .before .before .before .args in
-    let p = c .before .before .before .before .before .pre in
-    let t = c .before .loop in
+    let loop : tie.At-loop Inv-loop μ-loop = search in let entry : tie.Start Inv-loop μ-loop = search in
+    let a = entry .args in
+    let p = entry .pre in
+    let t = loop .loop in
     rw (same c) (pair-fits (a .n) (a .cost .now) (a .u) (t .v) (t .at) (t .inv .2 .place) (length (t .buffer)) (omega (arith, p .0 .fits, t .inv .1)) (p .1 .0) (c .loop-test .taken))
-
-start-requires : tie.Need-start-requires Inv-loop μ-loop
-start-requires c κs = (c .before .before .pre .1 .0, c .before .before .pre .0 .most)
-
-loop-holds : tie.Need-loop-holds Inv-loop μ-loop
-loop-holds c = (omega arith, refl, wrote-none _ _ _ _ _ _ (c .before .before .before .pre .1 .1))
-
-add-put-link : tie.Need-add-put-link Inv-loop μ-loop
-add-put-link c = omega (arith, c .before .before .start .ensures .ends, c .before .before .start .ensures .small)
-
-mul-put-link : tie.Need-mul-put-link Inv-loop μ-loop
-mul-put-link c = omega (arith, c .before .before .start .ensures .ends, c .before .before .start .ensures .small)
-
-shared-slice-read-put-link : tie.Need-shared-slice-read-put-link Inv-loop μ-loop
-shared-slice-read-put-link c = omega (arith, c .before .before .before .start .ensures .ends, c .before .before .before .before .before .before .pre .0 .square)
 
 put-link-requires : tie.Need-put-link-requires Inv-loop μ-loop
 put-link-requires c κs =
-    let a = c .before .before .before .before .before .before .before .args in
-    let p = c .before .before .before .before .before .before .before .pre in
-    let most = valid-costs (a .n) (a .cost .now) (p .0 .valid) .most (a .u) (c .before .before .before .loop .v) (p .1 .0) (c .before .before .loop-test .taken) in
-    omega (arith, p .0 .most, p .1 .0, same (c .before .before), room (c .before .before))
-
-add-v : tie.Need-add-v Inv-loop μ-loop
-add-v c = omega (arith, c .before .before .before .before .before .before .before .before .before .before .pre .0 .most)
-
-loop-less : tie.Need-loop-less Inv-loop μ-loop
-loop-less c = omega arith
+    let loop-test : tie.In-loop Inv-loop μ-loop = search in let loop : tie.At-loop Inv-loop μ-loop = search in
+    let entry : tie.Start Inv-loop μ-loop = search in
+    let a = entry .args in
+    let p = entry .pre in
+    let most = valid-costs (a .n) (a .cost .now) (p .0 .valid) .most (a .u) (loop .loop .v) (p .1 .0) (loop-test .loop-test .taken) in
+    omega (arith, p .0 .most, p .1 .0, same loop-test, room loop-test)
 
 loop-again : tie.Need-loop-again Inv-loop μ-loop
 loop-again c =
-    let t = c .before .before .before .before .before .before .loop in
-    let e = c .before .before .put-link in (
+    let put-link : tie.After-put-link Inv-loop μ-loop = search in
+    let loop-test : tie.In-loop Inv-loop μ-loop = search in let loop : tie.At-loop Inv-loop μ-loop = search in
+    let t = loop .loop in
+    let e = put-link .put-link in (
       omega arith,
       e .kept .1 .1 .1 .1 .0 ∙ t .inv .1,
-      wrote-on _ _ (t .inv .1) (t .inv .2) (wrote-pair _ _ _ _ _ (t .inv .2 .place) (same (c .before .before .before .before .before)) (room (c .before .before .before .before .before)) (e .ensures .0) (e .ensures .1)),
+      wrote-on _ _ (t .inv .1) (t .inv .2) (wrote-pair _ _ _ _ _ (t .inv .2 .place) (same loop-test) (room loop-test) (e .ensures .0) (e .ensures .1)),
     )
-
-same-length : tie.Need-same-length Inv-loop μ-loop
-same-length c = c .before .loop .inv .1
 
 returns : tie.Need-returns Inv-loop μ-loop
 returns c =
-    let t = c .before .loop in
-    let end : t .v ≡ c .before .before .before .before .before .args .n = omega arith in
+    let loop : tie.At-loop Inv-loop μ-loop = search in let entry : tie.Start Inv-loop μ-loop = search in
+    let t = loop .loop in
+    let end : t .v ≡ entry .args .n = omega arith in
     let w = rw end at (t .inv .2) in
     wrote-on _ _ (t .inv .1) w (wrote-row _ _ _ _ _ (w .place))
 
@@ -83,16 +73,6 @@ pub put-row-spec : {M : Type 1} → statement M
 put-row-spec =
     tie.close
     (tie.spec
-    Inv-loop
-    μ-loop
-    start-requires
-    loop-holds
-    add-put-link
-    mul-put-link
-    shared-slice-read-put-link
-    put-link-requires
-    add-v
-    loop-less
-    loop-again
-    same-length
+    Inv-loop μ-loop (λ c κs. search needs) (λ c. search (needs, wrote-none)) (λ c. omega arith) (λ c. omega arith)
+    (λ c. omega arith) put-link-requires (λ c. omega arith) (λ c. omega arith) loop-again (λ c. search needs)
     returns)

@@ -1,12 +1,13 @@
 -- `put_rows`: the loop keeps what a writer has stored of the rows passed.
+use borrow.Author.Needs.{needs}
 use Prim.Native.Nat.{_-_, _≤_}
-use mathlib.Core.Path.{_≡_, refl, _∙_}
+use mathlib.Core.Path.{_≡_}
 use native.Mathlib.Omega.{arith}
 use lib.ListN.{length}
 use Rattle.book.specs.Hall.{entry}
-use Rattle.book.specs.WriterLaws.{links-none}
-use Rattle.images.specs.ImagePromise.{Wrote}
-use Rattle.images.specs.Writer.{wrote-none, wrote-on}
+use Rattle.book.proofs.Writer.{links-none}
+use Rattle.images.specs.Promise.{Wrote}
+use Rattle.images.proofs.Writer.{wrote-none, wrote-on}
 use Rattle.images.proofs.image_write.put_rows.Statement.{statement}
 use Rattle.images.proofs.image_write.put_rows.Tie as tie
 
@@ -16,44 +17,23 @@ Inv-loop n cost buffer₀ at₀ u₀ buffer at u = (u ≤ n) × (length buffer �
 abbrev μ-loop : tie.MeasureT-loop
 μ-loop n cost buffer₀ at₀ u₀ buffer at u = n - u
 
-loop-holds : tie.Need-loop-holds Inv-loop μ-loop
-loop-holds c = (omega arith, refl, wrote-none _ _ _ _ _ _ (rw (links-none (c .before .before .args .n) (entry (c .before .before .args .n) (c .before .before .args .cost .now)))))
-
 put-row-requires : tie.Need-put-row-requires Inv-loop μ-loop
 put-row-requires c κs =
-    let p = c .before .before .before .before .before .pre in
-    let t = c .before .before .loop in
-    (record { most = p .most; square = p .square; valid = p .valid; fits = omega (arith, p .fits, t .inv .1) }, (c .before .loop-test .taken, t .inv .2 .place))
-
-add-u : tie.Need-add-u Inv-loop μ-loop
-add-u c = omega (arith, c .before .before .before .before .before .before .before .before .pre .most)
-
-loop-less : tie.Need-loop-less Inv-loop μ-loop
-loop-less c = omega arith
-
-loop-again : tie.Need-loop-again Inv-loop μ-loop
-loop-again c =
-    let t = c .before .before .before .before .before .loop in
-    (omega arith, c .before .before .put-row .kept .1 .1 .1 .1 .0 ∙ t .inv .1, wrote-on _ _ (t .inv .1) (t .inv .2) (c .before .before .put-row .ensures))
-
-same-length : tie.Need-same-length Inv-loop μ-loop
-same-length c = c .before .loop .inv .1
+    let loop-test : tie.In-loop Inv-loop μ-loop = search in let loop : tie.At-loop Inv-loop μ-loop = search in
+    let start : tie.Start Inv-loop μ-loop = search in
+    let p = start .pre in
+    let t = loop .loop in
+    (record { most = p .most; square = p .square; valid = p .valid; fits = omega (arith, p .fits, t .inv .1) }, (loop-test .loop-test .taken, t .inv .2 .place))
 
 returns : tie.Need-returns Inv-loop μ-loop
 returns c =
-    let end : c .before .loop .u ≡ c .before .before .before .before .args .n = omega arith in
-    rw end at (c .before .loop .inv .2)
+    let loop : tie.At-loop Inv-loop μ-loop = search in let start : tie.Start Inv-loop μ-loop = search in
+    let end : loop .loop .u ≡ start .args .n = omega arith in
+    rw end at (loop .loop .inv .2)
 
 pub put-rows-spec : {M : Type 1} → statement M
 put-rows-spec =
     tie.close
     (tie.spec
-    Inv-loop
-    μ-loop
-    loop-holds
-    put-row-requires
-    add-u
-    loop-less
-    loop-again
-    same-length
-    returns)
+    Inv-loop μ-loop (λ c. search (needs, entry, links-none, wrote-none)) put-row-requires (λ c. omega arith)
+    (λ c. omega arith) (λ c. search (needs, wrote-on)) (λ c. search needs) returns)

@@ -5,24 +5,14 @@ use Rattle.known_halls.proofs.listed.narrowed.Statement.{statement}
 use Rattle.known_halls.proofs.listed.narrowed.Tie as tie
 
 abbrev Inv-loop : tie.InvT-loop
-Inv-loop from count next₀ i₀ next i = Unit {0}
+Inv-loop from count table₀ i₀ table i = Unit {0}
 
 abbrev μ-loop : tie.MeasureT-loop
-μ-loop from count next₀ i₀ next i = count - i
+μ-loop from count table₀ i₀ table i = count - i
 
 pub narrowed-spec : {M : Type 1} → statement M
 narrowed-spec =
     tie.close
     (tie.spec
-    Inv-loop
-    μ-loop
-    (λ c. search needs)
-    (λ c. search needs)
-    (λ c. search needs)
-    (λ c κs. search needs)
-    (λ c. search needs)
-    (λ c. search needs)
-    (λ c. search needs)
-    (λ c. search needs)
-    (λ c. search needs)
-    (λ c. search needs))
+    Inv-loop μ-loop (λ c. search needs) (λ c κs. search needs) (λ c κs. search needs) (λ c. search needs)
+    (λ c. search needs) (λ c. search needs) (λ c. search needs))

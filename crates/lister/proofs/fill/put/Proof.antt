@@ -5,15 +5,9 @@ use borrow.Author.Needs.{needs}
 use Rattle.lister.proofs.fill.put.Statement.{statement}
 use Rattle.lister.proofs.fill.put.Tie as tie
 
-returns-2 : tie.Need-returns-2
-returns-2 c = sym (set-out _ _ _ (search needs))
-
 pub put-spec : {M : Type 1} → statement M
 put-spec =
     tie.close
     (tie.spec
-    (λ c. search needs)
-    (λ c. search needs)
-    (λ c. search needs)
-    (λ c. search needs)
-    returns-2)
+    (λ c. search needs) (λ c. search needs) (λ c. search needs) (λ c. search needs)
+    (λ c. sym (set-out _ _ _ (search needs))))

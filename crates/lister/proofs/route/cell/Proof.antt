@@ -12,9 +12,4 @@ add-result : tie.Need-add-result
 add-result c = omega (arith, mul-le-mul (c .pre .1 .0) (c .pre .0))
 
 pub cell-spec : {M : Type 1} → statement M
-cell-spec =
-    tie.close
-    (tie.spec
-    mul-result
-    add-result
-    (λ c. search needs))
+cell-spec = tie.close (tie.spec mul-result add-result (λ c. search needs))

@@ -1,11 +1,14 @@
+-- `run` takes line by line: what is printed and what is left to print make the whole, and the tables are those of the book.
 use Prim.Native.Nat.{_-_}
 use mathlib.Core.Path.{refl, sym, _∙_}
 use native.Mathlib.Omega.{arith}
 use lib.ListN.{length}
 use lib.Seq.{length-take-le}
-use Rattle.hall.specs.Promise.{tables}
-use Rattle.listing.specs.Reading.{from as part, cut-within, cut-inside}
-use Rattle.listing.specs.Running.{few-stops, score-length, same-lengths, Going, advance, finish}
+use Rattle.book.specs.Contract.{tables}
+use Rattle.listing.proofs.Reading.{from as part, index-within, index-inside}
+use Rattle.listing.proofs.Books.{lengths-audited}
+use Rattle.listing.proofs.Lengths.{few-stops}
+use Rattle.listing.proofs.Running.{Going, advance, finish}
 use borrow.Author.Needs.{needs}
 use Rattle.listing.proofs.run.run.Statement.{statement}
 use Rattle.listing.proofs.run.run.Tie as tie
@@ -19,100 +22,81 @@ abbrev μ-loop : tie.MeasureT-loop
     length text - from
 
 loop-holds : tie.Need-loop-holds Inv-loop μ-loop
-loop-holds c = let p = (c .before .before .before .before .before .before .before) .pre .1 in
-    record { stands = (c .before .before .before .before .before .before .before) .pre .0; long = refl; near = p .1; short = omega (arith, p .2); count = omega arith; left = record { ends = refl; makes = refl } }
-
-sub-rest : tie.Need-sub-rest Inv-loop μ-loop
-sub-rest c = omega arith
-
-part-rest-start : tie.Need-part-rest-start Inv-loop μ-loop
-part-rest-start c = omega arith
-
-part-rest-end : tie.Need-part-rest-end Inv-loop μ-loop
-part-rest-end c = omega arith
-
-cut-requires : tie.Need-cut-requires Inv-loop μ-loop
-cut-requires c κs = search needs
+loop-holds c =
+    let start : tie.Start Inv-loop μ-loop = search in
+    let p = start .pre .1 in
+    record { right = start .pre .0; long = refl; near = p .inside; short = omega (arith, p .early); count = omega arith; left = record { ends = refl; makes = refl } }
 
 slice-aggregate-step : tie.Need-slice-aggregate-step Inv-loop μ-loop
-slice-aggregate-step c = sym (length-take-le _ _ (omega (arith, (c .before) .cut .ensures, cut-within 10 (part ((c .before .before .before .before) .loop .from) ((c .before .before .before .before .before .before .before .before .before .before .before .before) .args .text .now)))))
+slice-aggregate-step c =
+    let index-of : tie.After-index-of Inv-loop μ-loop = search in let loop : tie.At-loop Inv-loop μ-loop = search in
+    let start : tie.Start Inv-loop μ-loop = search in
+    sym (length-take-le _ _ (omega (arith, index-of .index-of .ensures, index-within 10 (part (loop .loop .from) (start .args .text .now)))))
 
 step-requires : tie.Need-step-requires Inv-loop μ-loop
-step-requires c κs = let g = (c .before .before .before .before .before .before .before .before .before .before) .loop .inv in
-    let p = (c .before .before .before .before .before .before .before .before .before .before .before .before .before .before .before .before .before .before) .pre .1 in
-    let inside = (c .before .before .before .before .before .before .before .before .before) .loop-test .taken in
-    (g .stands, (omega (arith, g .count, p .0, inside), omega (arith, g .short, g .long, p .0, p .3, inside)))
-
-add-i : tie.Need-add-i Inv-loop μ-loop
-add-i c = omega (arith, (c .before .before .before .before .before .before .before .before .before .before .before .before .before .before .before .before .before .before .before .before .before .before .before) .loop .inv .count, (c .before .before .before .before .before .before .before .before .before .before .before .before .before .before .before .before .before .before .before .before .before .before .before .before .before .before .before .before .before .before .before) .pre .1 .0, (c .before .before .before .before .before .before .before .before .before .before .before .before .before .before .before .before .before .before .before .before .before .before) .loop-test .taken)
+step-requires c κs =
+    let loop-test : tie.In-loop Inv-loop μ-loop = search in let loop : tie.At-loop Inv-loop μ-loop = search in
+    let start : tie.Start Inv-loop μ-loop = search in
+    let g = loop .loop .inv in
+    let p = start .pre .1 in
+    let inside = loop-test .loop-test .taken in
+    (g .right, record { count = omega (arith, g .count, p .short, inside); space = omega (arith, g .short, g .long, p .short, p .space, inside) })
 
 add-from : tie.Need-add-from Inv-loop μ-loop
-add-from c = let text = (c .before .before .before .before .before .before .before .before .before .before .before .before .before .before .before .before .before .before .before .before .before .before .before .before .before .before .before .before .before .before .before) .args .text .now in
-    let inside = (c .before .before .before .before .before .before .before .before .before .before .before .before .before .before .before .before .before .before .before .before .before .before) .loop-test .taken in
-    omega (arith, cut-inside text ((c .before .before .before .before .before .before .before .before .before .before .before .before .before .before .before .before .before .before .before .before .before .before .before) .loop .from) ((c .before .before .before .before .before .before .before .before .before .before .before .before .before .before .before .before .before .before .before .before) .cut .result) inside ((c .before .before .before .before .before .before .before .before .before .before .before .before .before .before .before .before .before .before .before .before) .cut .ensures), (c .before .before .before .before .before .before .before .before .before .before .before .before .before .before .before .before .before .before .before .before .before .before .before .before .before .before .before .before .before .before .before) .pre .1 .0)
+add-from c =
+    let index-of : tie.After-index-of Inv-loop μ-loop = search in let loop-test : tie.In-loop Inv-loop μ-loop = search in
+    let loop : tie.At-loop Inv-loop μ-loop = search in let start : tie.Start Inv-loop μ-loop = search in
+    let text = start .args .text .now in
+    let inside = loop-test .loop-test .taken in
+    omega (arith, index-inside text (loop .loop .from) (index-of .index-of .result) inside (index-of .index-of .ensures), start .pre .1 .short)
 
 add-from-2 : tie.Need-add-from-2 Inv-loop μ-loop
-add-from-2 c = let text = (c .before .before .before .before .before .before .before .before .before .before .before .before .before .before .before .before .before .before .before .before .before .before .before .before .before .before .before .before .before .before .before) .args .text .now in
-    let inside = (c .before .before .before .before .before .before .before .before .before .before .before .before .before .before .before .before .before .before .before .before .before .before) .loop-test .taken in
-    omega (arith, cut-inside text ((c .before .before .before .before .before .before .before .before .before .before .before .before .before .before .before .before .before .before .before .before .before .before .before) .loop .from) ((c .before .before .before .before .before .before .before .before .before .before .before .before .before .before .before .before .before .before .before .before) .cut .result) inside ((c .before .before .before .before .before .before .before .before .before .before .before .before .before .before .before .before .before .before .before .before) .cut .ensures), (c .before .before .before .before .before .before .before .before .before .before .before .before .before .before .before .before .before .before .before .before .before .before .before .before .before .before .before .before .before .before .before) .pre .1 .0)
-
-loop-less : tie.Need-loop-less Inv-loop μ-loop
-loop-less c = omega (arith, (c .before .before .before .before .before .before .before .before .before .before .before .before .before .before .before .before .before .before .before .before .before .before) .loop-test .taken)
-
-loop-again : tie.Need-loop-again Inv-loop μ-loop
-loop-again c = advance ((c .before .before .before .before .before .before .before .before .before .before .before .before .before .before .before .before .before .before .before .before .before .before .before) .loop .inv) ((c .before .before .before .before .before .before .before .before .before .before .before .before .before .before .before .before .before .before .before .before) .cut .result) _ _ _ ((c .before .before .before .before .before .before .before .before .before .before .before .before .before .before .before .before .before .before .before .before .before .before) .loop-test .taken) ((c .before .before .before .before .before .before .before .before .before .before .before .before .before .before .before .before .before .before .before .before .before .before .before .before .before .before .before .before .before .before .before) .pre .1 .0) ((c .before .before .before .before .before .before .before .before .before .before .before .before .before .before .before .before .before .before .before .before) .cut .ensures) ((c .before .before .before .before .before .before .before .before .before .before .before .before) .step .ensures) ((c .before .before .before .before .before .before .before .before .before .before .before .before) .step .kept .1 .1 .1 .0)
+add-from-2 c =
+    let index-of : tie.After-index-of Inv-loop μ-loop = search in let loop-test : tie.In-loop Inv-loop μ-loop = search in
+    let loop : tie.At-loop Inv-loop μ-loop = search in let start : tie.Start Inv-loop μ-loop = search in
+    let text = start .args .text .now in
+    let inside = loop-test .loop-test .taken in
+    omega (arith, index-inside text (loop .loop .from) (index-of .index-of .result) inside (index-of .index-of .ensures), start .pre .1 .short)
 
 scores-requires : tie.Need-scores-requires Inv-loop μ-loop
-scores-requires c κs = let g = (c .before .before .before) .loop .inv in
-    let p = (c .before .before .before .before .before .before .before .before .before .before .before) .pre .1 in
-    let long = score-length (g .stands) in
-    let few = few-stops (g .stands) in
-    (omega (arith, long, few), omega (arith, long, few, g .short, g .near, g .long, p .0, p .3))
-
-same-length : tie.Need-same-length Inv-loop μ-loop
-same-length c = (c .before .before) .scores .kept .1 .0 ∙ (c .before .before .before .before .before .before) .loop .inv .long
+scores-requires c κs =
+    let loop : tie.At-loop Inv-loop μ-loop = search in let start : tie.Start Inv-loop μ-loop = search in
+    let g = loop .loop .inv in
+    let p = start .pre .1 in
+    let long = lengths-audited (g .right) .scores in
+    let few = few-stops (g .right) in
+    (omega (arith, long, few), omega (arith, long, few, g .short, g .near, g .long, p .short, p .space))
 
 same-length-2 : tie.Need-same-length-2 Inv-loop μ-loop
-same-length-2 c = same-lengths ((c .before .before .before .before .before .before) .loop .inv .stands) ((c .before .before .before .before .before .before .before .before .before .before .before .before .before .before) .pre .0) .0
+same-length-2 c =
+    let loop : tie.At-loop Inv-loop μ-loop = search in let start : tie.Start Inv-loop μ-loop = search in
+    lengths-audited (loop .loop .inv .right) .costs ∙ sym (lengths-audited (start .pre .0) .costs)
 
 same-length-3 : tie.Need-same-length-3 Inv-loop μ-loop
-same-length-3 c = same-lengths ((c .before .before .before .before .before .before) .loop .inv .stands) ((c .before .before .before .before .before .before .before .before .before .before .before .before .before .before) .pre .0) .1
+same-length-3 c =
+    let loop : tie.At-loop Inv-loop μ-loop = search in let start : tie.Start Inv-loop μ-loop = search in
+    lengths-audited (loop .loop .inv .right) .times ∙ sym (lengths-audited (start .pre .0) .times)
 
 same-length-4 : tie.Need-same-length-4 Inv-loop μ-loop
-same-length-4 c = same-lengths ((c .before .before .before .before .before .before) .loop .inv .stands) ((c .before .before .before .before .before .before .before .before .before .before .before .before .before .before) .pre .0) .2
+same-length-4 c =
+    let loop : tie.At-loop Inv-loop μ-loop = search in let start : tie.Start Inv-loop μ-loop = search in
+    lengths-audited (loop .loop .inv .right) .counts ∙ sym (lengths-audited (start .pre .0) .counts)
 
 same-length-5 : tie.Need-same-length-5 Inv-loop μ-loop
-same-length-5 c = same-lengths ((c .before .before .before .before .before .before) .loop .inv .stands) ((c .before .before .before .before .before .before .before .before .before .before .before .before .before .before) .pre .0) .3
+same-length-5 c =
+    let loop : tie.At-loop Inv-loop μ-loop = search in let start : tie.Start Inv-loop μ-loop = search in
+    lengths-audited (loop .loop .inv .right) .shares ∙ sym (lengths-audited (start .pre .0) .shares)
 
 same-length-6 : tie.Need-same-length-6 Inv-loop μ-loop
-same-length-6 c = same-lengths ((c .before .before .before .before .before .before) .loop .inv .stands) ((c .before .before .before .before .before .before .before .before .before .before .before .before .before .before) .pre .0) .4
-
-returns : tie.Need-returns Inv-loop μ-loop
-returns c = finish ((c .before .before .before .before .before .before) .loop .inv) _ _ ((c .before .before .before .before .before) .loop-test .left) ((c .before .before) .scores .ensures)
+same-length-6 c =
+    let loop : tie.At-loop Inv-loop μ-loop = search in let start : tie.Start Inv-loop μ-loop = search in
+    lengths-audited (loop .loop .inv .right) .scores ∙ sym (lengths-audited (start .pre .0) .scores)
 
 pub run-spec : {M : Type 1} → statement M
 run-spec =
     tie.close
     (tie.spec
-    Inv-loop
-    μ-loop
-    loop-holds
-    sub-rest
-    part-rest-start
-    part-rest-end
-    cut-requires
-    slice-aggregate-step
-    step-requires
-    add-i
-    add-from
-    add-from-2
-    loop-less
-    loop-again
-    scores-requires
-    same-length
-    same-length-2
-    same-length-3
-    same-length-4
-    same-length-5
-    same-length-6
-    returns)
+    Inv-loop μ-loop loop-holds (λ c. omega arith) (λ c. omega arith) (λ c. omega arith) (λ c κs. search needs)
+    slice-aggregate-step step-requires (λ c. omega arith) add-from add-from-2 (λ c. omega arith)
+    (λ c. search (needs, advance)) scores-requires (λ c. search needs) same-length-2 same-length-3
+    same-length-4 same-length-5 same-length-6 (λ c. search (needs, finish)))

@@ -1,46 +1,24 @@
-use Rattle.listing.specs.Running.{standing-none}
+-- `start` runs from an empty hall on: its tables are those of the book without links.
+use Rattle.listing.proofs.Books.{empty-audited}
 use borrow.Author.Needs.{needs}
 use Rattle.listing.proofs.run.start.Statement.{statement}
 use Rattle.listing.proofs.run.start.Tie as tie
 
-empty-hall-requires : tie.Need-empty-hall-requires
-empty-hall-requires c κs = search needs
-
 run-requires : tie.Need-run-requires
-run-requires c κs = (standing-none _ _ _ _ ((c .before .before .before .before .before .before .before .before .before .before .before .before .before .before .before .before .before .before .before .before .before .before .before .before .before .before .before .before .before) .pre .0) ((c .before .before .before .before .before .before .before .before .before .before .before .before .before .before .before .before .before .before .before .before .before .before .before .before .before .before .before .before .before) .pre .1 .0) ((c .before .before .before .before .before .before .before .before .before .before .before .before .before .before .before .before) .empty-hall .ensures) .1, (c .before .before .before .before .before .before .before .before .before .before .before .before .before .before .before .before .before .before .before .before .before .before .before .before .before .before .before .before .before) .pre .1 .1)
-
-same-length : tie.Need-same-length
-same-length c = search needs
-
-same-length-2 : tie.Need-same-length-2
-same-length-2 c = search needs
-
-same-length-3 : tie.Need-same-length-3
-same-length-3 c = search needs
-
-same-length-4 : tie.Need-same-length-4
-same-length-4 c = search needs
-
-same-length-5 : tie.Need-same-length-5
-same-length-5 c = search needs
-
-same-length-6 : tie.Need-same-length-6
-same-length-6 c = search needs
+run-requires c κs =
+    let empty-hall : tie.After-empty-hall = search in let start : tie.Start = search in
+    (empty-audited _ _ _ _ (start .pre .0) (empty-hall .empty-hall .ensures) .1, start .pre .1)
 
 returns : tie.Need-returns
-returns c = let e = standing-none _ _ _ _ ((c .before .before .before .before .before .before .before .before .before .before .before .before .before .before .before .before .before .before .before .before .before .before .before .before .before .before .before .before .before .before .before .before .before .before .before .before .before .before .before .before .before .before) .pre .0) ((c .before .before .before .before .before .before .before .before .before .before .before .before .before .before .before .before .before .before .before .before .before .before .before .before .before .before .before .before .before .before .before .before .before .before .before .before .before .before .before .before .before .before) .pre .1 .0) ((c .before .before .before .before .before .before .before .before .before .before .before .before .before .before .before .before .before .before .before .before .before .before .before .before .before .before .before .before .before) .empty-hall .ensures) .0 in
-    rw e at ((c .before .before .before .before .before .before .before .before .before .before .before .before) .run .ensures)
+returns c =
+    let run : tie.After-run = search in let empty-hall : tie.After-empty-hall = search in
+    let start : tie.Start = search in
+    let e = empty-audited _ _ _ _ (start .pre .0) (empty-hall .empty-hall .ensures) .0 in
+    rw e at (run .run .ensures)
 
 pub start-spec : {M : Type 1} → statement M
 start-spec =
     tie.close
     (tie.spec
-    empty-hall-requires
-    run-requires
-    same-length
-    same-length-2
-    same-length-3
-    same-length-4
-    same-length-5
-    same-length-6
-    returns)
+    (λ c κs. search needs) run-requires (λ c. search needs) (λ c. search needs) (λ c. search needs)
+    (λ c. search needs) (λ c. search needs) (λ c. search needs) returns)

@@ -1,3 +1,4 @@
+-- `same` compares two words byte by byte: those passed are equal.
 use Prim.Native.Nat.{ℕ, _-_, _<_, _≤_}
 use mathlib.Core.Path.{_≡_, refl, sym, _∙_, ap}
 use mathlib.Core.Bool.{Bool, true, false}
@@ -7,7 +8,7 @@ use lib.ListN.{length, getD}
 use lib.Seq.{ext-getD}
 use borrow.Author.Count.{below-more}
 use Rattle.routes.specs.Route.{same}
-use Rattle.routes.specs.Lists.{same-refl, same-true}
+use Rattle.routes.proofs.Lists.{same-refl, same-true}
 use Rattle.listing.proofs.words.same.Statement.{statement}
 use Rattle.listing.proofs.words.same.Tie as tie
 
@@ -27,45 +28,28 @@ abbrev μ-loop : tie.MeasureT-loop
 returns : tie.Need-returns Inv-loop μ-loop
 returns c = sym (unlike _ _ (λ e. c .if1 .taken (ap length e)))
 
-loop-holds : tie.Need-loop-holds Inv-loop μ-loop
-loop-holds c = (omega arith, λ k l. absurd (omega arith))
-
-shared-slice-read-if2 : tie.Need-shared-slice-read-if2 Inv-loop μ-loop
-shared-slice-read-if2 c = omega arith
-
-shared-slice-read-if2-2 : tie.Need-shared-slice-read-if2-2 Inv-loop μ-loop
-shared-slice-read-if2-2 c = omega arith
-
 returns-2 : tie.Need-returns-2 Inv-loop μ-loop
-returns-2 c = sym (unlike _ _ (λ e. c .if2 .taken (ap (λ l. getD l ((c .before .before .before .before) .loop .i) 0) e)))
-
-add-i : tie.Need-add-i Inv-loop μ-loop
-add-i c = omega arith
-
-loop-less : tie.Need-loop-less Inv-loop μ-loop
-loop-less c = omega arith
+returns-2 c =
+    let loop : tie.At-loop Inv-loop μ-loop = search in
+    sym (unlike _ _ (λ e. c .if2 .taken (ap (λ l. getD l (loop .loop .i) 0) e)))
 
 loop-again : tie.Need-loop-again Inv-loop μ-loop
-loop-again c = (omega arith, below-more _ _ ((c .before .before .before .before) .loop .inv .1) (c .if2 .left))
+loop-again c =
+    let loop : tie.At-loop Inv-loop μ-loop = search in
+    (omega arith, below-more _ _ (loop .loop .inv .1) (c .if2 .left))
 
 returns-3 : tie.Need-returns-3 Inv-loop μ-loop
-returns-3 c = let a = (c .before .before .before) .args .a .now in
-    let b = (c .before .before .before) .args .b .now in
-    let equal : a ≡ b = ext-getD 0 a b ((c .before .before) .if1 .left) (λ k l. (c .before) .loop .inv .1 k (omega arith)) in
+returns-3 c =
+    let loop : tie.At-loop Inv-loop μ-loop = search in let if1 : tie.Else1 Inv-loop μ-loop = search in
+    let start : tie.Start Inv-loop μ-loop = search in
+    let a = start .args .a .now in
+    let b = start .args .b .now in
+    let equal : a ≡ b = ext-getD 0 a b (if1 .if1 .left) (λ k l. loop .loop .inv .1 k (omega arith)) in
     sym (same-refl a) ∙ ap (same a) equal
 
 pub same-spec : {M : Type 1} → statement M
 same-spec =
     tie.close
     (tie.spec
-    Inv-loop
-    μ-loop
-    returns
-    loop-holds
-    shared-slice-read-if2
-    shared-slice-read-if2-2
-    returns-2
-    add-i
-    loop-less
-    loop-again
-    returns-3)
+    Inv-loop μ-loop returns (λ c. (omega arith, λ k l. absurd (omega arith))) (λ c. omega arith) (λ c. omega arith)
+    returns-2 (λ c. omega arith) (λ c. omega arith) loop-again returns-3)

@@ -1,0 +1,108 @@
+-- Document 01's halls P1 to P8: one table of cases, and one theorem over the definitions that covers it. Assumes nothing.
+use Prim.Native.Nat.{ℕ, _+_, _*_, _-_, _/_, _%_, _^_}
+use mathlib.Core.Path.{_≡_, refl}
+use mathlib.Core.Bool.{Bool, true, false, _&&_}
+use mathlib.Core.List.{List, [], _∷_, _++_, map}
+use lib.ListN.{replicate, drop}
+use lib.Dec.{eqb}
+use Rattle.routes.specs.Route.{mark, sumTo, joinTo, listTo, allTo, same, setOf, count, visits, uses, time, least, extend, hops, routes, leastTime, quickest, ways, through, portion, share, used, score}
+use Rattle.book.specs.Hall.{Tables, mostStops, largestCost, mostWays, scale, filled, sized, validCosts, uncrowded, right, touched, lowFirst, field, imageOf, validRecord, isImage, costsOf}
+use Rattle.book.specs.Call.{Call, Ask, emptyHall, audit, workOut, edit, number, rule, Answer, reply, refusal, after, answer}
+use Rattle.book.specs.Book.{run, Step, kept, noLinks, bookRefusal, bookAfter, bookAnswer, bookAnswers}
+use Rattle.book.proofs.Sequence.{stepsOf}
+use Rattle.book.specs.declared.Kind.{Kind}
+use Rattle.book.specs.declared.Kind.the-variants.{Insert, Cheapen, Delete}
+
+-- document 01's numbers: the largest time, the bound of scores, the mark in 32 bits; 1 to 22 divide the scale, 23 does not
+pub numbers :
+    ((mostStops - 1) * largestCost ≡ 4128705) × ((mostStops - 1) * (mostStops - 2) * scale ≡ 909287739360) × (mark + 1 ≡ 2 ^ 32) ×
+    (allTo (mostWays + 1) (λ k. eqb (scale % (k + 1)) 0) ≡ false) × (allTo mostWays (λ k. eqb (scale % (k + 1)) 0) ≡ true)
+unfolding allTo
+numbers = (refl, refl, refl, refl, refl)
+
+-- the image of document 01's example, worked out by hand; it is read back, and not if a byte is missing
+pub image-worked :
+    let cost : List ℕ = 0 ∷ 5 ∷ 5 ∷ 0 ∷ 0 ∷ 0 ∷ 0 ∷ 5 ∷ 0 ∷ 0 ∷ 0 ∷ 5 ∷ 0 ∷ 0 ∷ 0 ∷ 0 ∷ [] in
+    let image : List ℕ = 0 ∷ 1 ∷ 5 ∷ 0 ∷ 0 ∷ 2 ∷ 5 ∷ 0 ∷ 1 ∷ 3 ∷ 5 ∷ 0 ∷ 2 ∷ 3 ∷ 5 ∷ 0 ∷ 4 ∷ 1 ∷ 4 ∷ 0 ∷ 16 ∷ 0 ∷ 0 ∷ 0 ∷ [] in
+    (imageOf 4 cost ≡ image) × (isImage 4 image ≡ true) × (costsOf 4 image ≡ cost) × (isImage 4 (drop 1 image) ≡ false)
+unfolding sumTo joinTo listTo allTo lowFirst field imageOf validRecord isImage costsOf
+image-worked = (refl, refl, refl, refl)
+
+-- an empty hall with n on tables full of sevens, then these calls: the refusal and the touched rows of each, and the scores left
+pub record Case : Type 0 where
+  pub n : ℕ
+  pub asks : List Ask
+  pub refusals : List ℕ
+  pub rows : List ℕ
+  pub scores : List ℕ
+
+abbrev pub case : ℕ → List Ask → List ℕ → List ℕ → List ℕ → Case
+case n asks refusals rows scores = record { n = n; asks = asks; refusals = refusals; rows = rows; scores = scores }
+
+abbrev pub sevens : ℕ → Tables
+sevens n =
+    let square : List ℕ = replicate (n * n) 7 in
+    record { cost = square; time = square; ways = square; share = square; score = replicate n 7 }
+
+abbrev pub calls : Case → List Call
+calls c = map (λ a. record { n = c .n; ask = a }) (emptyHall ∷ c .asks)
+
+unfoldable pub holds : Case → Bool
+holds c =
+    let steps : List Step = stepsOf (calls c) (sevens (c .n)) in
+    let said : List Answer = map (λ s. s .answer) steps in
+    let scores : List ℕ = run kept steps (sevens (c .n)) .score in
+    same (map (λ a. number (a .refusal)) said) (c .refusals) && (same (map (λ a. a .rows) said) (c .rows) && same scores (c .scores))
+
+-- an edit of the link u to v
+abbrev pub change : Kind → (u v cost : ℕ) → Ask
+change kind u v cost = edit (record { kind = kind; u = u; v = v; cost = cost })
+
+-- the edits of document 01's example
+abbrev pub diamond : List Ask
+diamond = change Insert 0 1 5 ∷ change Insert 0 2 5 ∷ change Insert 1 3 5 ∷ change Insert 2 3 5 ∷ change Cheapen 2 3 5 ∷ []
+
+abbrev pub cases : List Case
+cases =
+    -- P1: the example
+    case 4 diamond (0 ∷ 0 ∷ 0 ∷ 0 ∷ 0 ∷ 8 ∷ []) (0 ∷ 1 ∷ 1 ∷ 2 ∷ 2 ∷ 0 ∷ []) (0 ∷ scale / 2 ∷ scale / 2 ∷ 0 ∷ []) ∷
+    -- P2: then the lower way is quicker
+    case 4 (diamond ++ change Cheapen 2 3 4 ∷ []) (0 ∷ 0 ∷ 0 ∷ 0 ∷ 0 ∷ 8 ∷ 0 ∷ []) (0 ∷ 1 ∷ 1 ∷ 2 ∷ 2 ∷ 0 ∷ 2 ∷ []) (0 ∷ 0 ∷ scale ∷ 0 ∷ []) ∷
+    -- P3: then it closes
+    case 4 (diamond ++ change Cheapen 2 3 4 ∷ change Delete 2 3 0 ∷ []) (0 ∷ 0 ∷ 0 ∷ 0 ∷ 0 ∷ 8 ∷ 0 ∷ 0 ∷ []) (0 ∷ 1 ∷ 1 ∷ 2 ∷ 2 ∷ 0 ∷ 2 ∷ 2 ∷ []) (0 ∷ scale ∷ 0 ∷ 0 ∷ []) ∷
+    -- P4: one stop has no link (one-stop, in Calls, says it of every edit)
+    case 1 (change Insert 0 0 5 ∷ change Insert 0 1 5 ∷ change Cheapen 0 0 0 ∷ change Delete 7 9 0 ∷ []) (0 ∷ 4 ∷ 4 ∷ 4 ∷ 4 ∷ []) (0 ∷ 0 ∷ 0 ∷ 0 ∷ 0 ∷ []) (0 ∷ []) ∷
+    -- P5: no stop is no hall
+    case 0 (change Insert 0 1 5 ∷ []) (1 ∷ 1 ∷ []) (0 ∷ 0 ∷ []) [] ∷
+    -- P6, P7: the largest cost, and one more
+    case 2 (change Insert 0 1 65535 ∷ []) (0 ∷ 0 ∷ []) (0 ∷ 1 ∷ []) (0 ∷ 0 ∷ []) ∷
+    case 2 (change Insert 0 1 65536 ∷ []) (0 ∷ 5 ∷ []) (0 ∷ 0 ∷ []) (0 ∷ 0 ∷ []) ∷
+    -- P8: a cost of 0 is told before an absent link
+    case 2 (change Cheapen 0 1 0 ∷ []) (0 ∷ 5 ∷ []) (0 ∷ 0 ∷ []) (0 ∷ 0 ∷ []) ∷ []
+
+-- the cost tables that an insert, a cheapen and a delete leave
+pub costs-left :
+    let left : List Ask → List ℕ = λ asks. run kept (stepsOf (calls (case 2 asks [] [] [])) (sevens 2)) (sevens 2) .cost in
+    (left (change Insert 0 1 65535 ∷ []) ≡ 0 ∷ 65535 ∷ 0 ∷ 0 ∷ []) ×
+    (left (change Insert 0 1 9 ∷ change Insert 1 0 9 ∷ change Cheapen 0 1 4 ∷ []) ≡ 0 ∷ 4 ∷ 9 ∷ 0 ∷ []) ×
+    (left (change Insert 0 1 9 ∷ change Insert 1 0 9 ∷ change Delete 1 0 9 ∷ []) ≡ 0 ∷ 9 ∷ 0 ∷ 0 ∷ [])
+unfolding sumTo joinTo listTo allTo same setOf count visits uses time least extend hops routes leastTime quickest ways through portion share used score filled sized validCosts uncrowded right touched rule reply refusal after answer run stepsOf
+costs-left = (refl, refl, refl)
+
+pub cases-hold : map holds cases ≡ replicate 8 true
+unfolding holds sumTo joinTo listTo allTo same setOf count visits uses time least extend hops routes leastTime quickest ways through portion share used score filled sized validCosts uncrowded right touched rule reply refusal after answer run stepsOf
+cases-hold = refl
+
+-- the book of P3's calls, and then of another n, a link that is there already and a cost table that is too short; of an empty hall
+-- after them; and of a work out after them
+pub book-runs :
+    let calls : List Call = map (λ a. record { n = 4; ask = a }) (diamond ++ change Cheapen 2 3 4 ∷ change Delete 2 3 0 ∷ []) in
+    let more : List Call = record { n = 3; ask = audit } ∷ record { n = 4; ask = change Insert 0 1 4 } ∷ record { n = 4; ask = workOut (replicate 15 0) } ∷ [] in
+    let none : List ℕ = replicate 16 0 in
+    (map (λ a. number (a .refusal)) (bookAnswers (calls ++ more) (noLinks 4)) ≡ 0 ∷ 0 ∷ 0 ∷ 0 ∷ 8 ∷ 0 ∷ 0 ∷ 2 ∷ 6 ∷ 2 ∷ []) ×
+    (map (λ a. a .touched) (bookAnswers (calls ++ more) (noLinks 4)) ≡ 1 ∷ 1 ∷ 3 ∷ 5 ∷ 0 ∷ 5 ∷ 5 ∷ 0 ∷ 0 ∷ 0 ∷ []) ×
+    (run bookAfter (calls ++ more) (noLinks 4) .links ≡ 0 ∷ 5 ∷ 5 ∷ 0 ∷ 0 ∷ 0 ∷ 0 ∷ 5 ∷ 0 ∷ 0 ∷ 0 ∷ 0 ∷ 0 ∷ 0 ∷ 0 ∷ 0 ∷ []) ×
+    (run bookAfter (calls ++ (record { n = 4; ask = emptyHall } ∷ [])) (noLinks 4) .links ≡ none) ×
+    (run bookAfter (calls ++ (record { n = 4; ask = workOut (0 ∷ 7 ∷ drop 2 none) } ∷ [])) (noLinks 4) .links ≡ 0 ∷ 7 ∷ drop 2 none)
+unfolding sumTo joinTo listTo allTo same setOf count visits uses time least extend hops routes leastTime quickest ways through portion share used score filled sized validCosts uncrowded right touched rule reply bookRefusal bookAfter bookAnswer bookAnswers run
+book-runs = (refl, refl, refl, refl, refl)

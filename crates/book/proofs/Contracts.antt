@@ -1,0 +1,39 @@
+-- What contracts name, part by part: each table by its own parameter, at entry or at exit, and each part of an answer by its own field.
+-- Assumes nothing.
+use mathlib.Core.Path.{_≡_, refl}
+use mathlib.Core.List.{List, []}
+use Prim.Native.Nat.{ℕ}
+use Rattle.book.specs.Hall.{Tables}
+use Rattle.book.specs.Call.{Answer}
+use Rattle.book.specs.Contract.{Param, found, left, leftBeside, ofRefusal, ofEdit, ofWrite}
+use Rattle.book.specs.declared.EditAnswer.{EditAnswer}
+use Rattle.book.specs.declared.WriteAnswer.{WriteAnswer}
+use Rattle.book.specs.declared.Refusal.{Refusal}
+
+-- the five tables are these lists, in this order
+abbrev Are : Tables → (cost time ways share score : List ℕ) → Type 0
+Are t cost time ways share score = (t .cost ≡ cost) × (t .time ≡ time) × (t .ways ≡ ways) × (t .share ≡ share) × (t .score ≡ score)
+
+module _ (cost time ways share score : Param) where
+  pub found-so : Are (found cost time ways share score) (cost .entry .now) (time .entry .now) (ways .entry .now) (share .entry .now) (score .entry .now)
+  found-so = (refl, refl, refl, refl, refl)
+
+  pub left-so : Are (left cost time ways share score) (cost .exit .now) (time .exit .now) (ways .exit .now) (share .exit .now) (score .exit .now)
+  left-so = (refl, refl, refl, refl, refl)
+
+  pub beside-so : Are (leftBeside cost time ways share score) (cost .entry .now) (time .exit .now) (ways .exit .now) (share .exit .now) (score .exit .now)
+  beside-so = (refl, refl, refl, refl, refl)
+
+-- the answer has these parts, in the order of the record
+abbrev Says : Answer → Refusal → (touched rows length : ℕ) → (buffer : List ℕ) → Type 0
+Says a refusal touched rows length buffer =
+    (a .refusal ≡ refusal) × (a .touched ≡ touched) × (a .rows ≡ rows) × (a .length ≡ length) × (a .buffer ≡ buffer)
+
+pub refusal-so : (r : Refusal) → Says (ofRefusal r) r 0 0 0 []
+refusal-so r = (refl, refl, refl, refl, refl)
+
+pub edit-so : (a : EditAnswer) → Says (ofEdit a) (a .refusal) (a .touched) (a .rows) 0 []
+edit-so a = (refl, refl, refl, refl, refl)
+
+pub write-so : (a : WriteAnswer) (buffer : List ℕ) → Says (ofWrite a buffer) (a .refusal) 0 0 (a .length) buffer
+write-so a buffer = (refl, refl, refl, refl, refl)

@@ -1,0 +1,118 @@
+-- Each call at the corners of its rules, on tables that are right, damaged or too short: one table, one theorem.
+-- Assumes nothing.
+use Prim.Native.Nat.{ℕ}
+use mathlib.Core.Path.{_≡_, refl}
+use mathlib.Core.Bool.{Bool, true, _&&_, _||_}
+use mathlib.Core.List.{List, [], _∷_, _++_, map}
+use lib.ListN.{replicate, take, drop}
+use lib.Dec.{eqb}
+use Rattle.routes.specs.Route.{mark, sumTo, joinTo, listTo, allTo, same, setOf, count, visits, uses, time, least, extend, hops, routes, leastTime, quickest, ways, through, portion, share, used, score}
+use Rattle.book.specs.Hall.{Tables, scale, filled, sized, validCosts, uncrowded, right, touched, lowFirst, field, imageOf, validRecord, isImage, costsOf}
+use Rattle.book.specs.Call.{Call, Ask, emptyHall, audit, workOut, imageWrite, imageRead, number, accepted, rule, Answer, reply, refusal, after, answer, imageCheck}
+use Rattle.book.proofs.Refused.{bufferOf}
+use Rattle.book.proofs.Cases.{change}
+use Rattle.book.specs.declared.Kind.the-variants.{Insert, Cheapen, Delete}
+
+-- the one-way line of three stops, each link of cost 1, and its image
+abbrev pub lineCosts : List ℕ
+lineCosts = 0 ∷ 1 ∷ 0 ∷ 0 ∷ 0 ∷ 1 ∷ 0 ∷ 0 ∷ 0 ∷ []
+
+abbrev pub lineImage : List ℕ
+lineImage = 0 ∷ 1 ∷ 1 ∷ 0 ∷ 1 ∷ 2 ∷ 1 ∷ 0 ∷ 3 ∷ 1 ∷ 2 ∷ 0 ∷ 8 ∷ 0 ∷ 0 ∷ 0 ∷ []
+
+-- its tables, but with these ways from 0 to 2 and these scores
+abbrev pub lineTables : ℕ → List ℕ → Tables
+lineTables w scores = record {
+  cost = lineCosts;
+  time = 0 ∷ 1 ∷ 2 ∷ mark ∷ 0 ∷ 1 ∷ mark ∷ mark ∷ 0 ∷ [];
+  ways = 1 ∷ 1 ∷ w ∷ 0 ∷ 1 ∷ 1 ∷ 0 ∷ 0 ∷ 1 ∷ [];
+  share = 0 ∷ scale ∷ 0 ∷ 0 ∷ 0 ∷ 0 ∷ 0 ∷ 0 ∷ 0 ∷ [];
+  score = scores;
+}
+
+abbrev pub line : Tables
+line = lineTables 1 (0 ∷ scale ∷ 0 ∷ [])
+
+abbrev pub damaged : Tables
+damaged = lineTables 2 (0 ∷ scale ∷ 0 ∷ [])
+
+abbrev pub short : Tables
+short = lineTables 1 (0 ∷ scale ∷ [])
+
+-- its other four tables beside costs that have a link from 0 to 2 of cost c too
+abbrev pub direct : ℕ → Tables
+direct c = record { cost = 0 ∷ 1 ∷ c ∷ drop 3 lineCosts; time = line .time; ways = line .ways; share = line .share; score = line .score }
+
+-- its tables, each in turn an entry short
+abbrev pub shortOf : (cost time ways share : ℕ) → Tables
+shortOf cost time ways share = record {
+  cost = drop cost (line .cost);
+  time = drop time (line .time);
+  ways = drop ways (line .ways);
+  share = drop share (line .share);
+  score = line .score;
+}
+
+-- a call on tables, and its refusal
+pub record Corner : Type 0 where
+  pub n : ℕ
+  pub tables : Tables
+  pub ask : Ask
+  pub number : ℕ
+
+abbrev pub corner : ℕ → Tables → Ask → ℕ → Corner
+corner n tables ask number = record { n = n; tables = tables; ask = ask; number = number }
+
+abbrev pub flat : Tables → List ℕ
+flat t = t .cost ++ (t .time ++ (t .ways ++ (t .share ++ t .score)))
+
+-- the call answers so, and if it is refused the tables and the buffer stay and the answer is empty
+unfoldable pub answersSo : Corner → Bool
+answersSo k =
+    let c : Call = record { n = k .n; ask = k .ask } in
+    let a : Answer = answer c (k .tables) in
+    let empty : Bool = eqb (a .touched) 0 && (eqb (a .rows) 0 && eqb (a .length) 0) in
+    let stays : Bool = same (flat (after c (k .tables))) (flat (k .tables)) && same (a .buffer) (bufferOf c (k .tables)) in
+    eqb (number (a .refusal)) (k .number) && (eqb (k .number) 0 || (empty && stays))
+
+abbrev pub corners : List Corner
+corners =
+    -- empty hall: any content, but these lengths
+    corner 3 damaged emptyHall 0 ∷ corner 3 short emptyHall 2 ∷ corner 2 line emptyHall 2 ∷ corner 65 line emptyHall 1 ∷
+    corner 3 (shortOf 1 0 0 0) emptyHall 2 ∷ corner 3 (shortOf 0 1 0 0) emptyHall 2 ∷ corner 3 (shortOf 0 0 1 0) emptyHall 2 ∷
+    corner 3 (shortOf 0 0 0 1) emptyHall 2 ∷
+    -- work out: lengths before entries, and the lent content does not matter
+    corner 3 damaged (workOut lineCosts) 0 ∷ corner 3 line (workOut (65536 ∷ [])) 2 ∷ corner 3 line (workOut (0 ∷ 65536 ∷ drop 2 lineCosts)) 5 ∷
+    corner 3 line (workOut (lineCosts ++ (0 ∷ []))) 2 ∷ corner 3 line (workOut (0 ∷ 65535 ∷ drop 2 lineCosts)) 0 ∷ corner 3 line (workOut (1 ∷ drop 1 lineCosts)) 5 ∷ corner 0 line (workOut []) 1 ∷
+    -- audit
+    corner 3 line audit 0 ∷ corner 3 damaged audit 3 ∷ corner 3 short audit 2 ∷ corner 4 line audit 2 ∷ corner 3 (lineTables 1 (0 ∷ 0 ∷ 0 ∷ [])) audit 3 ∷
+    -- a cost that no quickest route uses may differ, one that ties or improves may not
+    corner 3 (direct 5) audit 0 ∷ corner 3 (direct 6) audit 0 ∷ corner 3 (direct 2) audit 3 ∷ corner 3 (direct 1) audit 3 ∷
+    -- edits: 3 before 4, 4 before 5, 5 before 6 and 7, 7 before 8; a delete's cost is not read
+    corner 3 damaged (change Insert 3 3 0) 3 ∷ corner 3 line (change Insert 3 1 0) 4 ∷ corner 3 line (change Insert 0 1 0) 5 ∷ corner 3 line (change Insert 0 1 5) 6 ∷
+    corner 3 line (change Insert 0 1 65536) 5 ∷ corner 3 line (change Cheapen 0 2 65536) 5 ∷
+    corner 3 line (change Insert 0 2 5) 0 ∷ corner 3 line (change Cheapen 0 2 4) 7 ∷ corner 3 line (change Cheapen 0 1 1) 8 ∷ corner 3 line (change Cheapen 0 1 0) 5 ∷
+    corner 3 line (change Delete 0 2 4) 7 ∷ corner 3 line (change Delete 1 1 4) 4 ∷ corner 3 line (change Delete 0 1 65536) 0 ∷ corner 3 short (change Delete 0 1 1) 2 ∷
+    -- image write: a buffer that fits, one byte short, and tables that do not belong to their hall
+    corner 3 line (imageWrite (replicate 16 7)) 0 ∷ corner 3 line (imageWrite (replicate 15 7)) 10 ∷ corner 3 damaged (imageWrite (replicate 16 7)) 3 ∷
+    corner 3 damaged (imageWrite []) 3 ∷
+    -- image read: the lent content does not matter; a missing byte, another n, equal records, cost 0
+    corner 3 damaged (imageRead lineImage) 0 ∷ corner 3 short (imageRead lineImage) 2 ∷ corner 3 line (imageRead (drop 1 lineImage)) 9 ∷
+    corner 3 line (imageRead (0 ∷ 1 ∷ 1 ∷ 0 ∷ 0 ∷ 1 ∷ drop 6 lineImage)) 9 ∷ corner 3 line (imageRead (0 ∷ 1 ∷ 0 ∷ drop 3 lineImage)) 9 ∷
+    corner 3 line (imageRead (take 8 lineImage ++ (2 ∷ drop 9 lineImage))) 9 ∷ []
+
+pub corners-hold : map answersSo corners ≡ replicate 48 true
+unfolding answersSo sumTo joinTo listTo allTo same setOf count visits uses time least extend hops routes leastTime quickest ways through portion share used score filled sized validCosts uncrowded right touched lowFirst field imageOf validRecord isImage costsOf rule reply refusal after answer
+corners-hold = refl
+
+-- an image write answers its length and leaves the bytes past it
+pub writes-so : let a : Answer = answer (record { n = 3; ask = imageWrite (replicate 18 7) }) line in (a .length ≡ 16) × (a .buffer ≡ lineImage ++ (7 ∷ 7 ∷ []))
+unfolding sumTo joinTo listTo allTo same setOf count visits uses time least extend hops routes leastTime quickest ways through portion share used score filled sized validCosts uncrowded right touched lowFirst imageOf rule reply refusal answer
+writes-so = (refl, refl)
+
+-- image check answers 0, 1 and 9
+pub checks-so :
+    (number (imageCheck 3 lineImage) ≡ 0) × (number (imageCheck 65 lineImage) ≡ 1) × (number (imageCheck 0 (0 ∷ 1 ∷ replicate 6 0)) ≡ 1) ×
+    (number (imageCheck 3 (drop 4 lineImage)) ≡ 9)
+unfolding sumTo allTo field validRecord isImage imageCheck
+checks-so = (refl, refl, refl, refl)

@@ -1,0 +1,103 @@
+-- What an accepted call has passed: each test before it, and for an edit two stops and another cost. Assumes nothing.
+use Prim.Native.Nat.{ℕ, zero, suc, _<_, _≤_}
+use mathlib.Core.Path.{_≡_, refl, ap}
+use mathlib.Core.Logic.{_≢_}
+use mathlib.Core.Bool.{Bool, true, false, not, _&&_, and-eq-true-iff}
+use mathlib.Core.List.{List}
+use native.Mathlib.Omega.{arith}
+use lib.Dec.{eqb, ltb, leb}
+use borrow.Author.Tests.{eqb-true, eqb-false, leb-true, ltb-true, le-ltb, not-true}
+use Rattle.routes.proofs.Booleans.{both}
+use Rattle.book.specs.Hall.{Tables, mostStops, largestCost, mostWays, upTo, entry, sized, validPair, uncrowded}
+use Rattle.book.specs.Call.{Call, edit, accepted, need, costTests, waysTest, costSet, withEdit, Rule, rule, chain, passes, refusal}
+use Rattle.book.specs.declared.Edit.{Edit}
+use Rattle.book.specs.declared.Kind.{Kind}
+use Rattle.book.specs.declared.Kind.the-variants.{Insert, Cheapen, Delete}
+use Rattle.book.specs.declared.Refusal.{Refusal}
+use Rattle.book.specs.declared.Refusal.the-variants.{Accepted, BadSize, BadLength, BadTables, BadStop, BadCost, LinkPresent, LinkAbsent, NotCheaper, TooManyWays}
+
+-- a chain of tests accepts where its first test passes and the rest accepts
+pub need-true : (p : Bool) (r next : Refusal) → accepted r ≡ false → accepted (need p r next) ≡ true → (p ≡ true) × (accepted next ≡ true)
+need-true true r next f e = (refl, e)
+need-true false r next f e = absurd (both e f)
+
+-- the same for the chain of all tests
+pub chain-true : (n : ℕ) (lengths sound : Bool) (tests : Refusal) → accepted (chain n lengths sound tests) ≡ true →
+    (upTo mostStops n ≡ true) × (lengths ≡ true) × (sound ≡ true) × (accepted tests ≡ true)
+chain-true n lengths sound tests e =
+    let (size, e₁) = need-true (upTo mostStops n) BadSize _ refl e in
+    let (long, e₂) = need-true lengths BadLength _ refl e₁ in
+    let (right, e₃) = need-true sound BadTables tests refl e₂ in
+    (size, long, right, e₃)
+
+-- an accepted call: its n is valid, the tables have their lengths, and its own tests accept; what it brings fits, and what it audits is right
+module _ (c : Call) (t : Tables) (e : refusal c t ≡ Accepted) where
+  abbrev r : Rule
+  r = rule (c .n) (c .ask) (t .cost)
+
+  all : (upTo mostStops (c .n) ≡ true) × ((r .fits && sized (c .n) t) ≡ true) × (passes (r .audits) (c .n) t ≡ true) × (accepted (r .tests) ≡ true)
+  unfolding refusal
+  all = chain-true (c .n) (r .fits && sized (c .n) t) (passes (r .audits) (c .n) t) (r .tests) (ap accepted e)
+
+  pub passed : (upTo mostStops (c .n) ≡ true) × (sized (c .n) t ≡ true) × (accepted (r .tests) ≡ true)
+  passed = let (size, lengths, sound, tests) = all in (size, and-eq-true-iff (r .fits) (sized (c .n) t) .0 lengths .1, tests)
+
+  pub fitted : r .fits ≡ true
+  fitted = let (size, lengths, sound, tests) = all in and-eq-true-iff (r .fits) (sized (c .n) t) .0 lengths .0
+
+  pub audited : passes (r .audits) (c .n) t ≡ true
+  audited = let (size, lengths, sound, tests) = all in sound
+
+-- an accepted edit
+pub record Permitted (n : ℕ) (e : Edit) (cost : List ℕ) : Type 0 where
+  pub from : e .u < n
+  pub to : e .v < n
+  pub apart : e .u ≢ e .v
+  pub fits : costSet (e .kind) (e .cost) ≤ largestCost
+  pub differs : entry n cost (e .u) (e .v) ≢ costSet (e .kind) (e .cost)
+  pub few : uncrowded mostWays n (withEdit n e cost) ≡ true
+
+pub cost-tests : (k : Kind) (c present : ℕ) (next : Refusal) → accepted (costTests k c present next) ≡ true →
+    (costSet k c ≤ largestCost) × (present ≢ costSet k c) × (accepted next ≡ true)
+cost-tests Insert c present next e =
+    let (bounds, e₁) = need-true (upTo largestCost c) BadCost _ refl e in
+    let (absent, e₂) = need-true (eqb present 0) LinkPresent next refl e₁ in
+    let (low, high) = and-eq-true-iff (leb 1 c) (leb c largestCost) .0 bounds in
+    (leb-true c largestCost high, omega (arith, leb-true 1 c low, eqb-true present 0 absent), e₂)
+cost-tests Cheapen c present next e =
+    let (bounds, e₁) = need-true (upTo largestCost c) BadCost _ refl e in
+    let (there, e₂) = need-true (ltb 0 present) LinkAbsent _ refl e₁ in
+    let (less, e₃) = need-true (ltb c present) NotCheaper next refl e₂ in
+    (leb-true c largestCost (and-eq-true-iff (leb 1 c) (leb c largestCost) .0 bounds .1), omega (arith, ltb-true c present less), e₃)
+cost-tests Delete c present next e =
+    let (there, e₁) = need-true (ltb 0 present) LinkAbsent next refl e in
+    (omega arith, omega (arith, ltb-true 0 present there), e₁)
+
+pub permitted : (n : ℕ) (e : Edit) (cost : List ℕ) → accepted (rule n (edit e) cost .tests) ≡ true → Permitted n e cost
+unfolding rule
+permitted n e cost ok =
+    let u : ℕ = e .u in
+    let v : ℕ = e .v in
+    let left : List ℕ = withEdit n e cost in
+    let (pair, ok₁) = need-true (validPair n u v) BadStop _ refl ok in
+    let (fits, differs, ok₂) = cost-tests (e .kind) (e .cost) (entry n cost u v) (waysTest n left) ok₁ in
+    let (from, rest) = and-eq-true-iff (ltb u n) (ltb v n && not (eqb u v)) .0 pair in
+    let (to, other) = and-eq-true-iff (ltb v n) (not (eqb u v)) .0 rest in
+    record {
+      from = ltb-true u n from;
+      to = ltb-true v n to;
+      apart = eqb-false u v (not-true (eqb u v) other);
+      fits = fits;
+      differs = differs;
+      few = need-true (uncrowded mostWays n left) TooManyWays Accepted refl ok₂ .0;
+    }
+
+-- a hall of one stop has no two: every edit is 4
+pub edit-alone : (e : Edit) (cost : List ℕ) → rule 1 (edit e) cost .tests ≡ BadStop
+unfolding rule
+edit-alone e cost = go (e .u) (e .v) _
+  where
+    go : (u v : ℕ) (next : Refusal) → need (validPair 1 u v) BadStop next ≡ BadStop
+    go zero zero next = refl
+    go zero (suc v) next = rw (le-ltb (suc v) 1 (omega arith))
+    go (suc u) v next = rw (le-ltb (suc u) 1 (omega arith))

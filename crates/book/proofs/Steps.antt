@@ -1,0 +1,262 @@
+-- One call on the tables of a book: it is refused, leaves and answers what the book says. Assumes nothing.
+use Prim.Native.Nat.{ℕ, _*_, _<_}
+use mathlib.Core.Path.{_≡_, refl, sym, _∙_, ap, subst}
+use mathlib.Core.Logic.{_≢_}
+use mathlib.Core.Bool.{Bool, true, false, cond, _&&_, and-eq-true-iff}
+use mathlib.Core.List.{List, [], _∷_}
+use lib.Dec.{eqb, ltb, leb, lit<}
+use lib.ListN.{length, replicate, length-set, length-replicate}
+use borrow.Author.Tests.{eqb-true, eq-eqb}
+use Rattle.routes.proofs.Booleans.{both}
+use Rattle.book.specs.Hall.{Tables, mostStops, largestCost, mostWays, scale, upTo, entry, filled, sized, validPair, validCosts, uncrowded, right, imageOf, isImage, costsOf}
+use Rattle.book.specs.Call.{Ask, emptyHall, audit, workOut, edit, imageWrite, imageRead, Call, number, accepted, need, costTests, waysTest, costSet, withEdit, Audit, anyTables, rightTables, Effect, stays, fills, Rule, rule, Answer, reply, passes, applied, refusal, after, answer, Done}
+use Rattle.book.specs.Book.{Book, entered, bookRefusal, bookAfter, bookAnswer, Step, withCost, lent, kept, Sequence}
+use Rattle.book.specs.declared.Edit.{Edit}
+use Rattle.book.specs.declared.Kind.{Kind}
+use Rattle.book.specs.declared.Kind.the-variants.{Insert, Cheapen, Delete}
+use Rattle.book.specs.declared.Refusal.{Refusal}
+use Rattle.book.specs.declared.Refusal.the-variants.{Accepted, BadSize, BadLength, BadTables, BadStop, BadCost, LinkPresent, LinkAbsent, NotCheaper, BadImage, ShortBuffer, TooManyWays}
+use Rattle.book.proofs.Tables.{entry-set, valid-set}
+use Rattle.book.proofs.Images.{length-read, read-valid}
+use Rattle.book.proofs.NoLinks.{valid-none, uncrowded-none}
+use Rattle.book.proofs.Filled.{sized-beside, sized-filled, sized-cost, right-filled, right-true}
+use Rattle.book.proofs.Passed.{need-true, chain-true, passed, fitted, audited, Permitted, permitted}
+
+-- what holds of a book's N and links at every point of a sequence
+pub record Held (n : ℕ) (cost : List ℕ) : Type 0 where
+  pub size : upTo mostStops n ≡ true
+  pub square : length cost ≡ n * n
+  pub valid : validCosts n cost ≡ true
+  pub few : uncrowded mostWays n cost ≡ true
+
+-- it holds where there are no links
+pub held-none : (n : ℕ) → upTo mostStops n ≡ true → Held n (replicate (n * n) 0)
+held-none n size = record { size = size; square = length-replicate (n * n) 0; valid = valid-none n; few = uncrowded-none mostWays n (lit< tt) }
+
+-- of costs with which work out passes its tests, and work out accepts those of which it holds
+pub worked-held : (n : ℕ) (c cost : List ℕ) → upTo mostStops n ≡ true → rule n (workOut c) cost .fits ≡ true → accepted (rule n (workOut c) cost .tests) ≡ true → Held n c
+unfolding rule
+worked-held n c cost size square e =
+    let (valid, e₁) = need-true (validCosts n c) BadCost _ refl e in
+    let (few, e₂) = need-true (uncrowded mostWays n c) TooManyWays Accepted refl e₁ in
+    record { size = size; square = eqb-true (length c) (n * n) square; valid = valid; few = few }
+
+pub held-worked : (n : ℕ) (c : List ℕ) (t : Tables) → Held n c → sized n t ≡ true → refusal (record { n = n; ask = workOut c }) t ≡ Accepted
+unfolding refusal rule
+held-worked n c t h s = rw (h .size, s, h .square, eq-eqb (n * n) (n * n) refl, h .valid, h .few)
+
+module _ (n : ℕ) (e : Edit) (cost : List ℕ) (h : Held n cost) (p : Permitted n e cost) where
+  -- an edit leaves the new cost at its link, and the others as they were
+  pub entry-edited : (s t : ℕ) → t < n → entry n (withEdit n e cost) s t ≡ cond (eqb (e .u) s && eqb (e .v) t) (costSet (e .kind) (e .cost)) (entry n cost s t)
+  entry-edited s t ht = entry-set n cost (e .u) (e .v) (costSet (e .kind) (e .cost)) s t (h .square) (p .from) (p .to) ht
+
+  pub held-edited : Held n (withEdit n e cost)
+  held-edited = record {
+    size = h .size;
+    square = length-set cost _ _ ∙ h .square;
+    valid = valid-set n cost (e .u) (e .v) (costSet (e .kind) (e .cost)) (h .square) (p .from) (p .to) (p .apart) (p .fits) (h .valid);
+    few = p .few;
+  }
+
+-- a call that passes its tests leaves costs of which it holds, if it holds of those that it audits
+pub rule-held : (n : ℕ) (ask : Ask) (cost : List ℕ) → upTo mostStops n ≡ true → rule n ask cost .fits ≡ true → (rule n ask cost .audits ≡ rightTables → Held n cost) →
+    accepted (rule n ask cost .tests) ≡ true → Held n (entered (rule n ask cost .effect) cost)
+unfolding rule
+rule-held n emptyHall cost size fits h e = held-none n size
+rule-held n audit cost size fits h e = h refl
+rule-held n (workOut c) cost size fits h e = worked-held n c cost size fits e
+rule-held n (edit x) cost size fits h e = held-edited n x cost (h refl) (permitted n x cost e)
+rule-held n (imageWrite buffer) cost size fits h e = h refl
+rule-held n (imageRead image) cost size fits h e =
+    let (is, e₁) = need-true (isImage n image) BadImage _ refl e in
+    let (few, e₂) = need-true (uncrowded mostWays n (costsOf n image)) TooManyWays Accepted refl e₁ in
+    record { size = size; square = length-read n image; valid = read-valid n image is; few = few }
+
+-- an effect on the tables of a cost table, and on the cost table
+pub applied-filled : (n : ℕ) (effect : Effect) (cost : List ℕ) → applied n effect (filled scale n cost) ≡ filled scale n (entered effect cost)
+applied-filled n stays cost = refl
+applied-filled n (fills c) cost = refl
+
+-- a call either audits or fills the tables, so what an accepted call leaves are the tables of the costs that it leaves
+rule-fills : (n : ℕ) (ask : Ask) (t : Tables) → (rule n ask (t .cost) .audits ≡ rightTables → filled scale n (t .cost) ≡ t) →
+    applied n (rule n ask (t .cost) .effect) t ≡ filled scale n (entered (rule n ask (t .cost) .effect) (t .cost))
+unfolding rule
+rule-fills n emptyHall t same = refl
+rule-fills n audit t same = sym (same refl)
+rule-fills n (workOut c) t same = refl
+rule-fills n (edit e) t same = refl
+rule-fills n (imageWrite buffer) t same = sym (same refl)
+rule-fills n (imageRead image) t same = refl
+
+module _ (c : Call) (t : Tables) (e : refusal c t ≡ Accepted) where
+  abbrev r : Rule
+  r = rule (c .n) (c .ask) (t .cost)
+
+  sound : r .audits ≡ rightTables → right scale mostWays (c .n) t ≡ true
+  sound audits = rw audits at (audited c t e)
+
+  -- so it holds of the costs that any accepted call leaves, on any tables, and their tables are left
+  pub accepted-held : Held (c .n) (entered (r .effect) (t .cost))
+  accepted-held =
+      let (size, lengths, tests) = passed c t e in
+      rule-held (c .n) (c .ask) (t .cost) size (fitted c t e) (λ audits.
+      let (valid, few, same) = right-true scale mostWays (c .n) t (sound audits) in
+      record { size = size; square = sized-cost (c .n) t lengths; valid = valid; few = few }) tests
+
+  pub accepted-filled : after c t ≡ filled scale (c .n) (entered (r .effect) (t .cost))
+  unfolding after
+  accepted-filled = rw e (rule-fills (c .n) (c .ask) t (λ audits. right-true scale mostWays (c .n) t (sound audits) .2))
+
+-- the tables of a book
+abbrev pub tablesOf : Book → Tables
+tablesOf b = filled scale (b .stops) (b .links)
+
+-- a work out as its contract has it, on its own cost table beside four of the five, is a step from the five
+pub work-out-step : (n : ℕ) (cost : List ℕ) (t t′ : Tables) (a : Answer) →
+    Done (record { n = n; ask = workOut cost }) (record { cost = cost; time = t .time; ways = t .ways; share = t .share; score = t .score }) t′ a →
+    Sequence t (record { call = record { n = n; ask = workOut cost }; left = t′; answer = a } ∷ [])
+unfolding Sequence rule
+work-out-step n cost t t′ a d = (d, tt)
+
+-- every call but work out is lent the five as they are: what holds so of a call, and of a work out, holds of what any call is lent
+by-lent : (n : ℕ) (P : Ask → Tables → Type 0) (t : Tables) → ((ask : Ask) → P ask t) → ((cost : List ℕ) → P (workOut cost) (withCost cost t)) →
+    (ask : Ask) → P ask (lent (record { n = n; ask = ask }) t)
+unfolding rule
+by-lent n P t own brought emptyHall = own emptyHall
+by-lent n P t own brought audit = own audit
+by-lent n P t own brought (workOut cost) = brought cost
+by-lent n P t own brought (edit e) = own (edit e)
+by-lent n P t own brought (imageWrite buffer) = own (imageWrite buffer)
+by-lent n P t own brought (imageRead image) = own (imageRead image)
+
+-- the rule of a call on what it is lent is that over the present costs
+rule-lent : (n : ℕ) (ask : Ask) (t : Tables) → rule n ask (lent (record { n = n; ask = ask }) t .cost) ≡ rule n ask (t .cost)
+unfolding rule
+rule-lent n ask t = by-lent n (λ ask t′. rule n ask (t′ .cost) ≡ rule n ask (t .cost)) t (λ ask. refl) (λ cost. refl) ask
+
+-- tables that are right pass whichever audit
+right-passes : (a : Audit) (n : ℕ) (t : Tables) → right scale mostWays n t ≡ true → passes a n t ≡ true
+right-passes anyTables n t e = refl
+right-passes rightTables n t e = e
+
+module _ (c : Call) (b : Book) where
+  abbrev ruled : Rule
+  ruled = rule (c .n) (c .ask) (b .links)
+
+  -- a call that the book accepts has its N, and passes its own tests; what it brings fits
+  pub accepted-book : accepted (bookRefusal c b) ≡ true → (c .n ≡ b .stops) × (ruled .fits ≡ true) × (accepted (ruled .tests) ≡ true)
+  unfolding bookRefusal
+  accepted-book e =
+      let (size, lengths, sound, tests) = chain-true (c .n) (ruled .fits && eqb (c .n) (b .stops)) true (ruled .tests) e in
+      let (fits, same) = and-eq-true-iff (ruled .fits) (eqb (c .n) (b .stops)) .0 lengths in
+      (eqb-true (c .n) (b .stops) same, fits, tests)
+
+  module _ (h : Held (b .stops) (b .links)) where
+    -- the book's tables have the lengths for N alone and pass the audit, so they refuse what the book refuses
+    pub refusal-book : refusal c (tablesOf b) ≡ bookRefusal c b
+    unfolding refusal bookRefusal filled
+    refusal-book =
+        rw (sized-filled scale (c .n) (b .stops) (b .links) (h .square)) (ap (need (upTo mostStops (c .n)) BadSize) (go (ruled .fits) (eqb (c .n) (b .stops)) refl))
+      where
+        go : (f x : Bool) → eqb (c .n) (b .stops) ≡ x →
+            need (f && x) BadLength (need (passes (ruled .audits) (c .n) (tablesOf b)) BadTables (ruled .tests)) ≡ need (f && x) BadLength (ruled .tests)
+        go true true e =
+            let sound : right scale mostWays (c .n) (tablesOf b) ≡ true =
+            rw (eqb-true (c .n) (b .stops) e) (right-filled scale mostWays (b .stops) (b .links) (h .valid) (h .few)) in
+            rw (right-passes (ruled .audits) (c .n) (tablesOf b) sound)
+        go true false e = refl
+        go false x e = refl
+
+    -- the book after the call
+    pub held-after : Held (bookAfter c b .stops) (bookAfter c b .links)
+    unfolding bookAfter
+    held-after = go (accepted (bookRefusal c b)) refl
+      where
+        left : List ℕ
+        left = entered (ruled .effect) (b .links)
+
+        go : (x : Bool) → accepted (bookRefusal c b) ≡ x → Held (b .stops) (cond x left (b .links))
+        go true e =
+            let (same, fits, tests) = accepted-book e in
+            subst (λ n. Held n left) same (rule-held (c .n) (c .ask) (b .links) (rw same (h .size)) fits (λ audits. rw same h) tests)
+        go false e = h
+
+-- a call on what it is lent refuses what the book refuses
+refusal-lent : (n : ℕ) (ask : Ask) (b : Book) → Held (b .stops) (b .links) →
+    refusal (record { n = n; ask = ask }) (lent (record { n = n; ask = ask }) (tablesOf b)) ≡ bookRefusal (record { n = n; ask = ask }) b
+unfolding refusal bookRefusal rule
+refusal-lent n ask b h =
+    by-lent n (λ ask t. refusal (record { n = n; ask = ask }) t ≡ bookRefusal (record { n = n; ask = ask }) b) (tablesOf b)
+    (λ ask. refusal-book (record { n = n; ask = ask }) b h)
+    (λ cost. rw (sized-beside scale n (b .stops) (b .links) cost, and-twice (eqb (length cost) (n * n)) (eqb n (b .stops)))) ask
+  where
+    and-twice : (x y : Bool) → (x && (x && y)) ≡ (x && y)
+    and-twice true y = refl
+    and-twice false y = refl
+
+-- its effect on what it is lent of a hall's tables gives the tables of the links entered
+effect-lent : (n : ℕ) (ask : Ask) (cost : List ℕ) →
+    applied n (rule n ask cost .effect) (lent (record { n = n; ask = ask }) (filled scale n cost)) ≡ filled scale n (entered (rule n ask cost .effect) cost)
+unfolding rule filled
+effect-lent n ask cost =
+    by-lent n (λ ask t. applied n (rule n ask cost .effect) t ≡ filled scale n (entered (rule n ask cost .effect) cost)) (filled scale n cost)
+    (λ ask. applied-filled n (rule n ask cost .effect) cost) (λ c. refl) ask
+
+-- a call that was made on the tables of a book: its answer is the book's, and the five after it are those of the book after it
+module _ (s : Step) (b : Book) (h : Held (b .stops) (b .links)) (d : Done (s .call) (lent (s .call) (tablesOf b)) (s .left) (s .answer)) where
+  refusal-made : refusal (s .call) (lent (s .call) (tablesOf b)) ≡ bookRefusal (s .call) b
+  refusal-made = refusal-lent (s .call .n) (s .call .ask) b h
+
+  pub answer-made : s .answer ≡ bookAnswer (s .call) b
+  unfolding answer bookAnswer filled
+  answer-made = d .answered ∙ rw (refusal-made, rule-lent (s .call .n) (s .call .ask) (tablesOf b))
+
+  pub kept-made : kept s (tablesOf b) ≡ tablesOf (bookAfter (s .call) b)
+  unfolding after bookAfter bookAnswer reply filled
+  kept-made = rw (answer-made, d .left, refusal-made, rule-lent (s .call .n) (s .call .ask) (tablesOf b)) (go (accepted (bookRefusal (s .call) b)) refl)
+    where
+      effect : Effect
+      effect = rule (s .call .n) (s .call .ask) (b .links) .effect
+
+      go : (x : Bool) → accepted (bookRefusal (s .call) b) ≡ x →
+          let t′ : Tables = cond x (applied (s .call .n) effect (lent (s .call) (tablesOf b))) (lent (s .call) (tablesOf b)) in
+          withCost (cond x (t′ .cost) (b .links)) t′ ≡ filled scale (b .stops) (cond x (entered effect (b .links)) (b .links))
+      go true e = rw (← accepted-book (s .call) b e .0) (effect-lent (s .call .n) (s .call .ask) (b .links))
+      go false e = refl
+
+-- an answer other than 3
+record Other (r : Refusal) : Type 0 where
+  not-three : eqb (number r) 3 ≡ false
+
+need-other : (p : Bool) (r : Refusal) {next : Refusal} → eqb (number r) 3 ≡ false → Other next → Other (need p r next)
+need-other true r e f = f
+need-other false r e f = record { not-three = e }
+
+ways-other : (n : ℕ) (cost : List ℕ) → Other (waysTest n cost)
+ways-other n cost = need-other (uncrowded mostWays n cost) TooManyWays refl (record { not-three = refl })
+
+cost-other : (k : Kind) (c present : ℕ) {next : Refusal} → Other next → Other (costTests k c present next)
+cost-other Insert c present f = need-other (upTo largestCost c) BadCost refl (need-other (eqb present 0) LinkPresent refl f)
+cost-other Cheapen c present f =
+    need-other (upTo largestCost c) BadCost refl (need-other (ltb 0 present) LinkAbsent refl (need-other (ltb c present) NotCheaper refl f))
+cost-other Delete c present f = need-other (ltb 0 present) LinkAbsent refl f
+
+rule-other : (n : ℕ) (ask : Ask) (cost : List ℕ) → Other (rule n ask cost .tests)
+unfolding rule
+rule-other n emptyHall cost = record { not-three = refl }
+rule-other n audit cost = record { not-three = refl }
+rule-other n (workOut c) cost = need-other (validCosts n c) BadCost refl (ways-other n c)
+rule-other n (edit e) cost =
+    need-other (validPair n (e .u) (e .v)) BadStop refl (cost-other (e .kind) (e .cost) (entry n cost (e .u) (e .v)) (ways-other n (withEdit n e cost)))
+rule-other n (imageWrite buffer) cost =
+    need-other (leb (length (imageOf n cost)) (length buffer)) ShortBuffer refl (record { not-three = refl })
+rule-other n (imageRead image) cost = need-other (isImage n image) BadImage refl (ways-other n (costsOf n image))
+
+-- a book never says 3
+pub never-bad : (c : Call) (b : Book) → bookRefusal c b ≢ BadTables
+unfolding bookRefusal
+never-bad c b e =
+    let r : Rule = rule (c .n) (c .ask) (b .links) in
+    let rest = need-other (r .fits && eqb (c .n) (b .stops)) BadLength refl (rule-other (c .n) (c .ask) (b .links)) in
+    let other : Other (bookRefusal c b) = need-other (upTo mostStops (c .n)) BadSize refl rest in
+    both (ap (λ r. eqb (number r) 3) e) (other .not-three)

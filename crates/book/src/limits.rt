@@ -1,0 +1,41 @@
+// The limits of a hall, in one place.
+ghost use mathlib.Core.Path.{_≡_};
+ghost use Rattle.routes.specs.Route.{mark};
+ghost use Rattle.book.specs.Hall.{mostStops, largestCost, mostWays, scale, upTo};
+
+// The hall as the holder of its limits; its contents lie in lent tables.
+pub struct Hall {}
+
+impl Hall {
+    // The most stops, and with them the most entries of a table.
+    pub const STOPS: usize = 64;
+
+    pub const CELLS: usize = Hall::STOPS * Hall::STOPS;
+    // The largest cost of a link, and the most ways of a pair.
+    pub const LARGEST_COST: u32 = 65535;
+
+    pub const WAYS: u32 = 22;
+    // The time where there is no route.
+    pub const MARK: u32 = 4294967295;
+    // What a whole share counts: the least common multiple of 1 to 22.
+    pub const SCALE: u64 = 232792560;
+
+    // Whether a hall may have n stops.
+    pub fn takes(n: u64) -> bool
+        ensures { λ r. ⌜ r ≡ upTo mostStops n ⌝ }
+    {
+        if n == 0 {
+            return false;
+        }
+        n <= Hall::STOPS as u64
+    }
+}
+
+// The limits of the code are those of the definitions.
+pub fn limits_agree()
+    ensures stops { λ r. do ⌜ (← ⟦Hall::STOPS⟧ .entry) ≡ mostStops ⌝ }
+    ensures cost { λ r. do ⌜ (← ⟦Hall::LARGEST_COST⟧ .entry) ≡ largestCost ⌝ }
+    ensures ways { λ r. do ⌜ (← ⟦Hall::WAYS⟧ .entry) ≡ mostWays ⌝ }
+    ensures mark { λ r. do ⌜ (← ⟦Hall::MARK⟧ .entry) ≡ mark ⌝ }
+    ensures scale { λ r. do ⌜ (← ⟦Hall::SCALE⟧ .entry) ≡ scale ⌝ }
+{}

@@ -1,0 +1,18 @@
+-- `calls::compare::long` is safe and ends. Assumes nothing.
+use Prim.Native.Nat.{_-_, _≤_}
+use borrow.Author.Needs.{needs}
+use Rattle.calls.proofs.compare.long.Statement.{statement}
+use Rattle.calls.proofs.compare.long.Tie as tie
+
+abbrev Inv-loop : tie.InvT-loop
+Inv-loop a b count differ₀ i₀ differ i = i ≤ count
+
+abbrev μ-loop : tie.MeasureT-loop
+μ-loop a b count differ₀ i₀ differ i = count - i
+
+pub long-spec : {M : Type 1} → statement M
+long-spec =
+    tie.close
+    (tie.spec
+    Inv-loop μ-loop (λ c. search needs) (λ c κs. search needs) (λ c κs. search needs) (λ c. search needs)
+    (λ c κs. search needs) (λ c. search needs) (λ c. search needs) (λ c. search needs) (λ c. search needs))

@@ -1,0 +1,72 @@
+// A call: its number and the numbers that it brings.
+use book::Edit;
+use book::Kind;
+ghost use mathlib.Core.Path.{_≡_};
+
+// The calls, by number.
+pub const EMPTY_HALL: u64 = 0;
+
+pub const WORK_OUT: u64 = 1;
+
+pub const AUDIT: u64 = 2;
+
+pub const INSERT: u64 = 3;
+
+pub const CHEAPEN: u64 = 4;
+
+pub const DELETE: u64 = 5;
+
+pub const IMAGE_WRITE: u64 = 6;
+
+pub const IMAGE_READ: u64 = 7;
+
+pub const IMAGE_CHECK: u64 = 8;
+
+// How many there are.
+pub const CALLS: usize = 9;
+
+// Only an edit reads u, v and the cost, and a delete not the cost.
+pub struct Call {
+    pub number: u64,
+    pub n: u64,
+    pub u: u64,
+    pub v: u64,
+    pub cost: u64,
+}
+
+// A call that brings no link.
+pub fn plain(number: u64, n: u64) -> Call
+    ensures { λ r. ⌜ (r .number ≡ number) × (r .n ≡ n) ⌝ }
+{
+    Call {
+        number,
+        n,
+        u: 0,
+        v: 0,
+        cost: 0,
+    }
+}
+
+fn kind_of(number: u64) -> Kind
+    ensures { λ r. ⌜ (number ≡ 3 → r ≡ Kind.Insert) × (number ≡ 4 → r ≡ Kind.Cheapen) × (number ≡ 5 → r ≡ Kind.Delete) ⌝ }
+{
+    match number {
+        INSERT => Kind::Insert,
+        CHEAPEN => Kind::Cheapen,
+        _ => Kind::Delete,
+    }
+}
+
+// The edit that a call asks for.
+pub fn edit_of(call: Call) -> Edit
+    ensures { λ r. ⌜ (r .u ≡ call .u) × (r .v ≡ call .v) × (r .cost ≡ call .cost) ⌝ }
+    ensures { λ r. ⌜ (call .number ≡ 3 → r .kind ≡ Kind.Insert) × (call .number ≡ 4 → r .kind ≡ Kind.Cheapen) × (call .number ≡ 5 → r .kind ≡ Kind.Delete) ⌝ }
+{
+    let kind = kind_of(call.number);
+    Edit {
+        kind,
+        u: call.u,
+        v: call.v,
+        cost: call.cost,
+    }
+}

@@ -1,0 +1,41 @@
+// The lengths at which tables are lent: those of a hall, but for at most one table. `odd` says which
+// table is lent an entry short, 1 to 5, or an entry long, 6 to 10; with 0 all have their lengths.
+use super::tables::CELLS;
+use super::tables::STOPS;
+use super::tables::cells;
+use super::tables::stops;
+ghost use mathlib.Core.Path.{_≡_};
+ghost use Prim.Native.Nat.{_+_, _*_, _≤_, _<_};
+
+// The length of table i, which has so many entries and so much room.
+fn lent(entries: usize, room: usize, odd: u64, i: u64) -> usize
+    requires { ⌜ (entries ≤ room) × (0 < i) × (i < 6) ⌝ }
+    ensures { λ r. ⌜ (odd ≡ 0 → r ≡ entries) × (r ≤ room) ⌝ }
+{
+    if odd == i {
+        if 0 < entries {
+            return entries - 1;
+        }
+    }
+    if odd == i + 5 {
+        if entries < room {
+            return entries + 1;
+        }
+    }
+    entries
+}
+
+// The length of table i of n × n entries.
+pub fn square(n: u64, odd: u64, i: u64) -> usize
+    requires { ⌜ (0 < i) × (i < 6) ⌝ }
+    ensures { λ r. ⌜ (n ≤ 65 → odd ≡ 0 → r ≡ n * n) × (r ≤ 4225) ⌝ }
+{
+    lent(cells(n), CELLS, odd, i)
+}
+
+// The length of the scores.
+pub fn single(n: u64, odd: u64) -> usize
+    ensures { λ r. ⌜ (n ≤ 65 → odd ≡ 0 → r ≡ n) × (r ≤ 65) ⌝ }
+{
+    lent(stops(n), STOPS, odd, 5)
+}

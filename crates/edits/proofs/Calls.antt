@@ -1,0 +1,146 @@
+-- From the tests of an edit to what it promises. Assumes nothing.
+use Prim.Native.Nat.{ℕ, _+_, _*_, _^_, _<_, _≤_}
+use mathlib.Core.Path.{_≡_, refl, sym, _∙_, ap}
+use mathlib.Core.Logic.{_≢_}
+use mathlib.Core.Bool.{Bool, true, false, cond, not, _&&_, and-eq-true-iff}
+use mathlib.Core.List.{List}
+use lib.Dec.{eqb, ltb}
+use lib.Count.{ones}
+use lib.ListN.{length, getD, set}
+use Rattle.routes.specs.Route.{setOf}
+use Rattle.routes.proofs.Bits.{ones-setOf}
+use borrow.Author.Tests.{eqb-false, ltb-true, not-true}
+use Rattle.book.specs.Hall.{Tables, largestCost, mostWays, scale, upTo, entry, filled, validPair, uncrowded, touched}
+use Rattle.book.specs.Call.{Call, edit, accepted, need, costTests, editTests, waysTest, costSet, withEdit, rule, Answer, reply, refusal, after, answer, Done}
+use Rattle.book.specs.Contract.{tables, ofRefusal, ofEdit, Audited}
+use Rattle.book.specs.declared.Edit.{Edit}
+use Rattle.book.specs.declared.Kind.{Kind}
+use Rattle.book.specs.declared.Kind.the-variants.{Insert, Cheapen, Delete}
+use Rattle.book.specs.declared.Refusal.{Refusal}
+use Rattle.book.specs.declared.Refusal.the-variants.{Accepted, BadStop, BadCost, LinkPresent, LinkAbsent, NotCheaper, TooManyWays}
+use Rattle.book.proofs.Filled.{right-true}
+use Rattle.book.proofs.Passed.{need-true, cost-tests}
+use Rattle.book.proofs.Sizes.{stops, lengths}
+use Rattle.book.proofs.Refused.{refused-done}
+use Rattle.book.proofs.Doors.{behind-audit}
+use Rattle.tables.specs.Promise.{Shares, summed, FilledAll}
+use Rattle.tables.proofs.Sums.{summed-whole}
+use Rattle.tables.proofs.Worked.{worked-shares, worked-scores}
+use Rattle.edits.proofs.Laws.{square′, valid′}
+use Rattle.edits.specs.Promise.{Change, Applied}
+
+-- what the test of two stops tells
+pub pair-true : (n u v : ℕ) → validPair n u v ≡ true → (u < n) × (v < n) × (u ≢ v)
+pair-true n u v e =
+    let (from, rest) = and-eq-true-iff (ltb u n) (ltb v n && not (eqb u v)) .0 e in
+    let (to, apart) = and-eq-true-iff (ltb v n) (not (eqb u v)) .0 rest in
+    (ltb-true u n from, ltb-true v n to, eqb-false u v (not-true (eqb u v) apart))
+
+-- 5 to 8 by the kind, and the entry at its place
+pub by-kind : (n : ℕ) (e : Edit) (cost : List ℕ) {k : Kind} {at : ℕ} {r : Refusal} → validPair n (e .u) (e .v) ≡ true → e .kind ≡ k → at ≡ e .u * n →
+    r ≡ costTests k (e .cost) (getD cost (at + e .v) 0) Accepted → r ≡ editTests n e cost Accepted
+by-kind n e cost pair kind place h = rw (pair, kind, ← place) h
+
+-- where the first tests pass the next ones follow, else the refusal of the first stands
+record Chain (first next whole : Refusal) : Type 0 where
+  follows : whole ≡ cond (accepted first) next first
+
+ends : {next : Refusal} → Chain Accepted next next
+ends = record { follows = refl }
+
+chained : (p : Bool) (r : Refusal) {first next whole : Refusal} → accepted r ≡ false → Chain first next whole → Chain (need p r first) next (need p r whole)
+chained true r f e = e
+chained false r f e = record { follows = rw f }
+
+cost-chain : (k : Kind) (c present : ℕ) {next : Refusal} → Chain (costTests k c present Accepted) next (costTests k c present next)
+cost-chain Insert c present = chained (upTo largestCost c) BadCost refl (chained (eqb present 0) LinkPresent refl ends)
+cost-chain Cheapen c present = chained (upTo largestCost c) BadCost refl (chained (ltb 0 present) LinkAbsent refl (chained (ltb c present) NotCheaper refl ends))
+cost-chain Delete c present = chained (ltb 0 present) LinkAbsent refl ends
+
+-- the inner edit, once its rows were tried: what it asks to sum the scores, and what it leaves and answers
+module _ (m L n u v new : ℕ) (t : Tables) (h : Change m L n u v new (t .cost) (t .time) (t .ways) (t .share)) (fits : Bool) (cost′ times′ counts′ shares′ : List ℕ)
+    (tried : FilledAll m L n (set (t .cost) (u * n + v) new) (t .time) (t .ways) (t .share) times′ counts′ shares′ fits)
+    (costs : cost′ ≡ cond fits (set (t .cost) (u * n + v) new) (t .cost)) where
+  pub shares-applied : L ≤ 2 ^ 32 → fits ≡ true → Shares n shares′
+  shares-applied fine f =
+      worked-shares L n (set (t .cost) (u * n + v) new) shares′ (rw f at (tried .shares)) fine (h .most)
+      (square′ h) (valid′ h)
+
+  pub not-applied : fits ≡ false → Applied m L n u v new t (tables cost′ times′ counts′ shares′ (t .score)) (ofRefusal TooManyWays)
+  not-applied f = record {
+    left = rw (← tried .said, f) λ i. record {
+      cost = (rw f at costs) i;
+      time = (rw f at (tried .times)) i;
+      ways = (rw f at (tried .counts)) i;
+      share = (rw f at (tried .shares)) i;
+      score = t .score;
+    };
+    answered = rw (← tried .said, f);
+  }
+
+  pub applied : fits ≡ true → (sources : ℕ) → sources ≡ setOf n (touched n (t .cost) (set (t .cost) (u * n + v) new) u v) → (count : ℕ) → count ≡ ones sources →
+      length (t .score) ≡ n → (score′ : List ℕ) → score′ ≡ summed n n shares′ (t .score) →
+      Applied m L n u v new t (tables cost′ times′ counts′ shares′ score′) (ofEdit (record { refusal = Accepted; touched = sources; rows = count }))
+  unfolding filled reply
+  applied f sources e count o long score′ sums = record {
+    left = rw (← tried .said, f) λ i. record {
+      cost = (rw f at costs) i;
+      time = (rw f at (tried .times)) i;
+      ways = (rw f at (tried .counts)) i;
+      share = (rw f at (tried .shares)) i;
+      score = (sums ∙ summed-whole n shares′ (t .score) long ∙ worked-scores L n (set (t .cost) (u * n + v) new) shares′ (rw f at (tried .shares))) i;
+    };
+    answered = rw (← tried .said, f) λ i. ofEdit (record { refusal = Accepted; touched = e i; rows = (o ∙ ap ones e ∙ ones-setOf n _) i });
+  }
+
+module _ (n : ℕ) (e : Edit) (t : Tables) (a : Audited n t) where
+  abbrev call : Call
+  call = record { n = n; ask = edit e }
+
+  abbrev tests : Refusal → Refusal
+  tests = editTests n e (t .cost)
+
+  abbrev new : ℕ
+  new = costSet (e .kind) (e .cost)
+
+  -- what an edit with good arguments asks of the inner edit
+  pub change-of : accepted (tests Accepted) ≡ true → Change mostWays scale n (e .u) (e .v) new (t .cost) (t .time) (t .ways) (t .share)
+  change-of ok =
+      let (pair, ok₁) = need-true (validPair n (e .u) (e .v)) BadStop _ refl ok in
+      let (fits, differs, ok₂) = cost-tests (e .kind) (e .cost) (entry n (t .cost) (e .u) (e .v)) Accepted ok₁ in
+      let (from, to, apart) = pair-true n (e .u) (e .v) pair in
+      let (valid, few, filling) = right-true scale mostWays n t (a .sound) in
+      record {
+        most = stops n (a .inside .size) .1;
+        square = lengths n t (a .inside .lengths) .costs;
+        valid = valid;
+        uncrowded = few;
+        worked = record { times = ap (λ x. x .time) (sym filling); counts = ap (λ x. x .ways) (sym filling); shares = ap (λ x. x .share) (sym filling) };
+        from = from;
+        to = to;
+        apart = apart;
+        fits = fits;
+        differs = differs;
+      }
+
+  refusal-edit : refusal call t ≡ cond (accepted (tests Accepted)) (waysTest n (withEdit n e (t .cost))) (tests Accepted)
+  unfolding rule
+  refusal-edit =
+      behind-audit call t (λ s. refl) refl a ∙
+      chained (validPair n (e .u) (e .v)) BadStop refl (cost-chain (e .kind) (e .cost) (entry n (t .cost) (e .u) (e .v))) .follows
+
+  pub edit-refused : (r : Refusal) → r ≡ tests Accepted → accepted r ≡ false → Done call t t (ofRefusal r)
+  unfolding rule
+  edit-refused r told shut = refused-done call t r (refusal-edit ∙ rw (← told, shut)) shut
+
+  -- the inner edit does what the call says
+  pub edit-done : accepted (tests Accepted) ≡ true → {t′ : Tables} {x : Answer} → Applied mostWays scale n (e .u) (e .v) new t t′ x → Done call t t′ x
+  unfolding after answer rule
+  edit-done ok {t′} {x} r = go (uncrowded mostWays n (withEdit n e (t .cost))) refl
+    where
+      verdict : refusal call t ≡ waysTest n (withEdit n e (t .cost))
+      verdict = refusal-edit ∙ rw ok
+
+      go : (b : Bool) → uncrowded mostWays n (withEdit n e (t .cost)) ≡ b → Done call t t′ x
+      go true f = record { left = r .left ∙ rw (verdict, f); answered = r .answered ∙ rw (verdict, f) }
+      go false f = rw (r .left, r .answered, f) (refused-done call t TooManyWays (verdict ∙ rw f) refl)

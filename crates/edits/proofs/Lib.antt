@@ -1,0 +1,4 @@
+pub mod Masks
+pub mod Changes
+pub mod Laws
+pub mod Calls

@@ -1,0 +1,49 @@
+// Work out: the tables of a brought cost table.
+use super::door::door;
+use book::Refusal;
+use book::limits::Hall;
+use book::number_of::passes;
+use tables::costs;
+use tables::fill_all::fill_all;
+use tables::scores;
+ghost use Rattle.book.specs.Call.{workOut, Done};
+ghost use Rattle.book.specs.Contract.{these, found, leftBeside, ofRefusal, Inside};
+
+// Work out behind the door: tests 5 and 11, and the tables.
+fn fill_tables(
+    n: usize,
+    cost: &[u32],
+    time: &mut [u32],
+    ways: &mut [u32],
+    share: &mut [u64],
+    score: &mut [u64],
+) -> Refusal
+    requires { ⌜ Inside n (these cost time ways share score) ⌝ }
+    ensures { λ r. ⌜ Done (record { n = n; ask = workOut (now (cost .entry)) }) (found cost time ways share score) (leftBeside cost time ways share score) (ofRefusal r) ⌝ }
+{
+    if !costs::valid(n, cost) {
+        return Refusal::BadCost;
+    }
+    if !fill_all(Hall::WAYS, Hall::SCALE, n, cost, time, ways, share) {
+        return Refusal::TooManyWays;
+    }
+    scores::sum_scores(n, share, score);
+    Refusal::Accepted
+}
+
+pub fn work_out(
+    n: u64,
+    cost: &[u32],
+    time: &mut [u32],
+    ways: &mut [u32],
+    share: &mut [u64],
+    score: &mut [u64],
+) -> Refusal
+    ensures { λ r. ⌜ Done (record { n = n; ask = workOut (now (cost .entry)) }) (found cost time ways share score) (leftBeside cost time ways share score) (ofRefusal r) ⌝ }
+{
+    let verdict = door(n, cost, time, ways, share, score);
+    if !passes(verdict) {
+        return verdict;
+    }
+    fill_tables(n as usize, cost, time, ways, share, score)
+}

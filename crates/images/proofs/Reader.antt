@@ -1,0 +1,88 @@
+-- Image read, from its tests and rows to what it promises. Assumes nothing.
+use Prim.Native.Nat.{ℕ, _+_, _-_, _*_, _<_, _≤_}
+use mathlib.Core.Path.{_≡_, refl, sym, _∙_, ap, subst}
+use mathlib.Core.Bool.{Bool, true, false, cond}
+use mathlib.Core.List.{List}
+use native.Mathlib.Numerals.{add-one}
+use native.Mathlib.Omega.{arith}
+use lib.ListN.{take, set, replicate, length-replicate, replicate-append-replicate}
+use lib.Seq.{take-at}
+use Rattle.routes.proofs.Sums.{cond-true, cond-false}
+use Rattle.book.specs.Hall.{Tables, mostWays, scale, filled, isImage, costsOf}
+use Rattle.book.specs.Call.{Call, imageRead, need, waysTest, rule, refusal, Done}
+use Rattle.book.specs.Contract.{tables, ofRefusal, Inside}
+use Rattle.book.proofs.Refused.{refused-done}
+use Rattle.book.proofs.Doors.{behind-door, quiet-done}
+use Rattle.book.specs.declared.Refusal.the-variants.{Accepted, BadImage, TooManyWays}
+use Rattle.book.proofs.Records.{from, to, costAt, costsTo, costs-more}
+use Rattle.book.proofs.Images.{Image, length-read, read-valid}
+use Rattle.tables.specs.Promise.{FilledAll, Shares, summed}
+use Rattle.images.specs.Promise.{Loaded}
+use Rattle.book.proofs.Sizes.{stops, lengths}
+use Rattle.tables.proofs.Measured.{hall-measure}
+use Rattle.tables.proofs.Sums.{summed-whole}
+use Rattle.tables.proofs.Worked.{worked-scores, worked-shares}
+
+-- the front of a table of zeros
+pub take-replicate : (k n x : ℕ) → k ≤ n → take k (replicate n x) ≡ replicate k x
+take-replicate k n x h =
+    let split : k + (n - k) ≡ n = omega arith in
+    rw (← split, ← replicate-append-replicate k (n - k) x) (take-at (replicate k x) (replicate (n - k) x) k (length-replicate k x))
+
+-- one more record read
+pub read-more : {n c i place x : ℕ} {image cost : List ℕ} → Image n image c → i < c → cost ≡ costsTo n image i →
+    place ≡ from image i * n + to image i → x ≡ costAt image i → set cost place x ≡ costsTo n image (i + 1)
+read-more {n} {c} {i} {place} {x} {image} {cost} h l e f g =
+    rw (add-one, e, f, g) (sym (costs-more n image i (λ j k. h .links j (omega arith))))
+
+-- a table of its own that holds the image's costs, every row tried over it, and the costs copied where none is crowded
+pub loaded : {n : ℕ} {image own cost time ways share cost′ time′ ways′ share′ : List ℕ} {r : Bool} (b : Bool) → own ≡ costsOf n image →
+    FilledAll mostWays scale n own time ways share time′ ways′ share′ r → r ≡ b → cost′ ≡ cond b own cost → Loaded n image cost time ways share cost′ time′ ways′ share′ b
+loaded {cost = cost} b e a f g = record { costs = g ∙ ap (λ l. cond b l cost) e; others = rw (e, f) at a }
+
+module _ (n : ℕ) (image cost time ways share score : List ℕ) (i : Inside n (tables cost time ways share score)) where
+  abbrev call : Call
+  call = record { n = n; ask = imageRead image }
+
+  abbrev found : Tables
+  found = tables cost time ways share score
+
+  -- the tests behind the door
+  read-refusal : refusal call found ≡ need (isImage n image) BadImage (waysTest n (costsOf n image))
+  unfolding rule
+  read-refusal = behind-door call found (λ s. refl) i
+
+  pub read-broken : isImage n image ≡ false → Done call found found (ofRefusal BadImage)
+  unfolding rule
+  read-broken e = refused-done call found BadImage (read-refusal ∙ rw e) refl
+
+  module _ (whole : isImage n image ≡ true) {cost′ time′ ways′ share′ : List ℕ} {fit : Bool} (a : Loaded n image cost time ways share cost′ time′ ways′ share′ fit) where
+    -- a crowded pair: everything is as it was
+    pub read-crowded : fit ≡ false → Done call found (tables cost′ time′ ways′ share′ score) (ofRefusal TooManyWays)
+    unfolding rule
+    read-crowded e =
+        subst (λ t. Done call found t (ofRefusal TooManyWays)) same (refused-done call found TooManyWays (read-refusal ∙ rw (whole, sym (a .others .said) ∙ e)) refl)
+      where
+        same : found ≡ tables cost′ time′ ways′ share′ score
+        same j = record {
+          cost = sym (a .costs ∙ cond-false _ cost e) j;
+          time = sym (a .others .times ∙ cond-false _ time e) j;
+          ways = sym (a .others .counts ∙ cond-false _ ways e) j;
+          share = sym (a .others .shares ∙ cond-false _ share e) j;
+          score = score;
+        }
+
+    -- none: the sums of shares fit, and with them the tables are those of the image's hall
+    pub read-shares : fit ≡ true → Shares n share′
+    read-shares e = worked-shares scale n (costsOf n image) share′ (a .others .shares ∙ cond-true _ share e) (hall-measure .fine) (stops n (i .size) .1) (length-read n image) (read-valid n image whole)
+
+    pub read-accepted : fit ≡ true → {score′ : List ℕ} → score′ ≡ summed n n share′ score → Done call found (tables cost′ time′ ways′ share′ score′) (ofRefusal Accepted)
+    unfolding rule filled
+    read-accepted e {score′} sums =
+        quiet-done call found (tables cost′ time′ ways′ share′ score′) refl (read-refusal ∙ rw (whole, sym (a .others .said) ∙ e)) λ j. record {
+          cost = (a .costs ∙ cond-true _ cost e) j;
+          time = (a .others .times ∙ cond-true _ time e) j;
+          ways = (a .others .counts ∙ cond-true _ ways e) j;
+          share = (a .others .shares ∙ cond-true _ share e) j;
+          score = (sums ∙ summed-whole n share′ score (lengths n found (i .lengths) .scores) ∙ worked-scores scale n (costsOf n image) share′ (a .others .shares ∙ cond-true _ share e)) j;
+        }

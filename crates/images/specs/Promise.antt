@@ -1,0 +1,56 @@
+-- What the functions on images promise. Assumes nothing.
+use Prim.Native.Nat.{ℕ, _+_, _*_, _≤_}
+use mathlib.Core.Path.{_≡_}
+use mathlib.Core.Bool.{Bool, true, cond, _&&_}
+use mathlib.Core.List.{List, [], _∷_, _++_}
+use lib.Dec.{ltb, leb}
+use lib.ListN.{length, getD, drop}
+use Rattle.routes.specs.Route.{sumTo}
+use Rattle.book.specs.Hall.{largestCost, mostWays, scale, entry, upTo, validPair, validCosts, lowFirst, field, imageOf, costsOf}
+use Rattle.book.specs.Call.{need, writes, Answer, reply}
+use Rattle.book.specs.Written.{recordsTo, linksTo}
+use Rattle.book.specs.declared.Refusal.the-variants.{Accepted, ShortBuffer}
+use Rattle.tables.specs.Promise.{FilledAll}
+
+-- the key of the record at a place: its two stops as one number
+abbrev pub keyAt : List ℕ → ℕ → ℕ
+keyAt image at = 256 * field image at 1 + field image (at + 1) 1
+
+-- the record at a place is a link, and its key is not below the least
+abbrev pub linkAt : ℕ → List ℕ → ℕ → ℕ → Bool
+linkAt n image at least =
+    validPair n (field image at 1) (field image (at + 1) 1) && (upTo largestCost (field image (at + 2) 2) && leb least (keyAt image at))
+
+-- 1 for the cost of a link, 0 where there is none; its record, no byte where there is none; and the number of links of a cost table
+abbrev pub linkBit : ℕ → ℕ
+linkBit cost = cond (ltb 0 cost) 1 0
+
+abbrev pub linkBytes : ℕ → ℕ → ℕ → List ℕ
+linkBytes u v cost = cond (ltb 0 cost) (u ∷ v ∷ lowFirst 2 cost) []
+
+abbrev pub links : List ℕ → ℕ
+links cost = sumTo (length cost) (λ i. linkBit (getD cost i 0))
+
+-- the answer of an image write on right tables: the image at the front of the buffer where it fits, else the buffer as it was
+abbrev pub stored : ℕ → List ℕ → List ℕ → Answer
+stored n cost buffer =
+    let image : List ℕ = imageOf n cost in
+    reply n (need (leb (length image) (length buffer)) ShortBuffer Accepted) (writes image buffer)
+
+-- a hall's cost table, and a buffer that has room for all its records
+pub record Room (n : ℕ) (cost buffer : List ℕ) : Type 0 where
+  pub most : n ≤ 64
+  pub square : length cost ≡ n * n
+  pub valid : validCosts n cost ≡ true
+  pub fits : 4 * linksTo n (entry n cost) n 0 ≤ length buffer
+
+-- a writer went on from the pairs before (u, v) to those before (u′, v′): behind the records of the first, which stood in front of
+-- place `at`, it stored the others up to `end`, and the bytes past it stay
+pub record Wrote (n : ℕ) (cost : List ℕ) (u v at u′ v′ end : ℕ) (before after : List ℕ) : Type 0 where
+  pub place : end ≡ 4 * linksTo n (entry n cost) u′ v′
+  pub bytes : (old : List ℕ) → length old ≡ length before → before ≡ recordsTo n (entry n cost) u v ++ drop at old → after ≡ recordsTo n (entry n cost) u′ v′ ++ drop end old
+
+-- the tables of an image's hall, but for the scores, where no pair is crowded, else the tables as they were
+pub record Loaded (n : ℕ) (image cost time ways share cost′ time′ ways′ share′ : List ℕ) (fits : Bool) : Type 0 where
+  pub costs : cost′ ≡ cond fits (costsOf n image) cost
+  pub others : FilledAll mostWays scale n (costsOf n image) time ways share time′ ways′ share′ fits

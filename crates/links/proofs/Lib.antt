@@ -1,0 +1,4 @@
+pub mod Flat
+pub mod Masked
+pub mod Gathering
+pub mod Masking

@@ -1,0 +1,3 @@
+pub mod Promise
+pub mod Masks
+pub mod Picked

@@ -1,0 +1,34 @@
+// Small steps on numbers: choices without a branch, and a wider width.
+ghost use mathlib.Core.Path.{_≡_};
+ghost use Prim.Native.Nat.{min};
+ghost use Rattle.links.specs.Picked.{Picked};
+
+pub fn min_u32(a: u32, b: u32) -> u32
+    ensures { λ r. ⌜ r ≡ min a b ⌝ }
+{
+    if a < b { a } else { b }
+}
+
+pub fn select_u32(yes: bool, a: u32, b: u32) -> u32
+    ensures { λ r. ⌜ Picked yes a b r ⌝ }
+{
+    if yes { a } else { b }
+}
+
+pub fn select_u64(yes: bool, a: u64, b: u64) -> u64
+    ensures { λ r. ⌜ Picked yes a b r ⌝ }
+{
+    if yes { a } else { b }
+}
+
+pub fn select_usize(yes: bool, a: usize, b: usize) -> usize
+    ensures { λ r. ⌜ Picked yes a b r ⌝ }
+{
+    if yes { a } else { b }
+}
+
+pub fn wide(x: u32) -> u64
+    ensures { λ r. ⌜ r ≡ x ⌝ }
+{
+    x as u64
+}

@@ -1,0 +1,68 @@
+-- Laws of the lines of a text, one after another: between two of them the tables are those of the book, and what is printed and what is
+-- left to print make the whole. Assumes nothing.
+use Prim.Native.Nat.{ℕ, zero, suc, _+_, _*_, _<_, _≤_}
+use mathlib.Core.Path.{_≡_, refl, _∙_, ap}
+use mathlib.Core.List.{List, []}
+use native.Mathlib.Omega.{arith}
+use lib.ListN.{length, getD, take, drop, drop-of-length-le}
+use Rattle.routes.specs.Route.{joinTo, listTo, score}
+use Rattle.routes.proofs.Rows.{length-listTo, getD-listTo}
+use Rattle.bytes.specs.Bytes.{indexOf}
+use Rattle.book.specs.Hall.{Tables, scale, entry, filled, right}
+use Rattle.book.specs.Contract.{Audited}
+use Rattle.listing.specs.declared.Line.{Line}
+use Rattle.listing.specs.Text.{longest, parts, lines, words, lineOf, stopLine, said, report}
+use Rattle.listing.specs.Promise.{hallBytes, lineBytes, Printed, bookOf, Stepped}
+use Rattle.listing.proofs.Reading.{from as part, line-next, index-inside}
+use Rattle.listing.proofs.Printing.{Left, go-on, last}
+use Rattle.listing.proofs.Books.{own, next-audited}
+use Rattle.listing.proofs.Lengths.{said-short, few-stops}
+
+-- between two lines: line i begins at place `from` of the text, and the tables are those of the book before it
+pub record Going (n : ℕ) (text : List ℕ) (first : ℕ) (out₀ : List ℕ) (start : ℕ) (t₀ t : Tables) (out : List ℕ) (at i from : ℕ) : Type 0 where
+  pub right : Audited n t
+  pub long : length out ≡ length out₀
+  pub near : from ≤ length text + 1
+  pub short : at ≤ hallBytes + lineBytes * from
+  pub count : i ≤ from + 2
+  pub left : Left (report i (bookOf n t) (lines (drop from text))) at out (report 2 (bookOf n t₀) (lines (drop first text))) start out₀
+
+joinTo-cong : (n : ℕ) {f g : ℕ → List ℕ} → ((i : ℕ) → i < n → f i ≡ g i) → joinTo n f ≡ joinTo n g
+unfolding joinTo
+joinTo-cong zero h = refl
+joinTo-cong (suc n) h = rw (joinTo-cong n (λ i l. h i (omega arith)), h n (omega arith))
+
+-- the scores that stand in the tables are the book's
+score-lines : (n i : ℕ) (t : Tables) → Audited n t → joinTo (length (t .score)) (λ v. stopLine v (getD (t .score) v 0)) ≡ report i (bookOf n t) []
+unfolding report filled
+score-lines n i t s =
+    let scores : t .score ≡ listTo n (score (entry n (t .cost)) n scale) = ap (λ (t : Tables). t .score) (own s) in
+    rw (scores, length-listTo n (score (entry n (t .cost)) n scale))
+    (joinTo-cong n (λ v l. ap (stopLine v) (getD-listTo n (score (entry n (t .cost)) n scale) 0 v l)))
+
+module _ {n : ℕ} {text : List ℕ} {first : ℕ} {out₀ : List ℕ} {start : ℕ} {t₀ t : Tables} {out : List ℕ} {at i from : ℕ} (g : Going n text first out₀ start t₀ t out at i from) where
+  -- a line further
+  pub advance : (e : ℕ) (t′ : Tables) (end : ℕ) (out′ : List ℕ) → from < length text → length text ≤ longest → e ≡ indexOf 10 (part from text) →
+      Stepped n i (lineOf (words (take e (part from text)))) t t′ at out end out′ → length out′ ≡ length out →
+      Going n text first out₀ start t₀ t′ out′ end (i + 1) (from + e + 1)
+  unfolding report
+  advance e t′ end out′ inside most index s same =
+      let l : Line = lineOf (words (take e (part from text))) in
+      let (book, right) = next-audited (g .right) l t′ (s .left) in
+      let long : length (said i (bookOf n t) l) ≤ lineBytes = said-short i (bookOf n t) l (omega (arith, g .count)) (few-stops (g .right)) in
+      record {
+        right = right;
+        long = same ∙ g .long;
+        near = omega (arith, index-inside text from e inside index);
+        short = omega (arith, g .short, s .printed .behind);
+        count = omega (arith, g .count);
+        left = rw book (go-on (rw (line-next text from e inside index) at (g .left)) (s .printed));
+      }
+
+  -- after the last line the scores
+  pub finish : (end : ℕ) (out′ : List ℕ) → length text ≤ from → Printed (joinTo (length (t .score)) (λ v. stopLine v (getD (t .score) v 0))) at out end out′ →
+      Printed (report 2 (bookOf n t₀) (lines (drop first text))) start out₀ end out′
+  unfolding parts
+  finish end out′ over p =
+      let none : drop from text ≡ [] = drop-of-length-le text {i = from} over in
+      last (rw none at (g .left)) (rw (score-lines n i t (g .right)) at p)

@@ -1,0 +1,64 @@
+-- What hallscore's functions promise: places in a text, what is printed, a line's step on the tables, and the whole. Assumes nothing.
+use Prim.Native.Nat.{ℕ, _+_, _≤_}
+use mathlib.Core.Path.{_≡_}
+use mathlib.Core.Bool.{true, false, cond}
+use mathlib.Core.List.{List, _++_}
+use lib.Dec.{ltb}
+use lib.ListN.{length, drop}
+use lib.Seq.{sets}
+use Rattle.book.specs.Hall.{Tables, scale, filled}
+use Rattle.book.specs.Book.{Book}
+use Rattle.listing.specs.Text.{longest, said, next, listing}
+use Rattle.listing.specs.declared.Line.{Line}
+use Rattle.listing.specs.declared.Listed.{Listed}
+
+-- the most bytes of a printed line, its line feed among them: `hall 64 scale 232792560`; `32769 unread`, longer than an edit's
+-- `32769 11 64`; `stop 63 score ` and 20 digits
+abbrev pub hallBytes : ℕ
+hallBytes = 24
+
+abbrev pub lineBytes : ℕ
+lineBytes = 13
+
+abbrev pub stopBytes : ℕ
+stopBytes = 35
+
+-- room for the listing of any text. A text has at most 32,768 bytes, and the shortest line, an empty one, takes one of them, its line
+-- feed; so there are at most 32,769 lines after the first, the last without a line feed, and 64 scores:
+-- 24 + 32,769 × 13 + 64 × 35 = 428,261 bytes, rounded up
+abbrev pub room : ℕ
+room = 430000
+
+-- the text is written into `out` from place `at` on, `end` is the place behind it, and all of it fits
+pub record Printed (text : List ℕ) (at : ℕ) (out : List ℕ) (end : ℕ) (out′ : List ℕ) : Type 0 where
+  pub behind : end ≡ at + length text
+  pub written : out′ ≡ sets out at text
+  pub inside : end ≤ length out
+
+-- the book with the costs of five tables of n stops
+abbrev pub bookOf : ℕ → Tables → Book
+bookOf n t = record { stops = n; links = t .cost }
+
+-- line i has room behind place `at`
+pub record Room (i at : ℕ) (out : List ℕ) : Type 0 where
+  pub count : i ≤ longest + 1
+  pub space : at + lineBytes ≤ length out
+
+-- line i, with what it says, has left the tables of the book after it, and printed what the book says
+pub record Stepped (n i : ℕ) (l : Line) (t t′ : Tables) (at : ℕ) (out : List ℕ) (end : ℕ) (out′ : List ℕ) : Type 0 where
+  pub left : t′ ≡ filled scale n (next (bookOf n t) l .links)
+  pub printed : Printed (said i (bookOf n t) l) at out end out′
+
+-- a text that is read, its lines from place `first` on, and an output with room for them behind place `at`
+pub record Ready (text : List ℕ) (first : ℕ) (out : List ℕ) (at : ℕ) : Type 0 where
+  pub short : length text ≤ longest
+  pub inside : first ≤ length text + 1
+  pub early : at ≤ hallBytes
+  pub space : room ≤ length out
+
+-- the listing from the front of the output, the bytes past it as they were; an output that is too short for some listing stays as it is
+unfoldable pub wrote : List ℕ → List ℕ → Listed × List ℕ
+wrote input output =
+    let text : List ℕ = listing input in
+    cond (ltb (length output) room) (record { fits = false; length = 0 }, output)
+    (record { fits = true; length = length text }, text ++ drop (length text) output)

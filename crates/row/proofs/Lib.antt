@@ -1,0 +1,12 @@
+pub mod Order
+pub mod Choosing
+pub mod Tallying
+pub mod Relaxing
+pub mod Settling
+pub mod Turns
+pub mod Adding
+pub mod Pushing
+pub mod Owing
+pub mod Paying
+pub mod Over
+pub mod Whole

@@ -1,0 +1,117 @@
+-- `flows::scan` goes over the links from one stop: what was passed is done, the others are still to come.
+use borrow.Author.Needs.{needs}
+use Prim.Native.Nat.{_+_, _*_}
+use native.Mathlib.Omega.{arith}
+use Rattle.links.proofs.Flat.{flat-lt}
+use Rattle.row_check.proofs.Walking.{Walking, walking-starts, walking-inside, walking-flow, walking-adds, walking-goes, walking-ends}
+use Rattle.row_check.proofs.flows.scan.Statement.{statement}
+use Rattle.row_check.proofs.flows.scan.Tie as tie
+
+abbrev Inv-loop : tie.InvT-loop
+Inv-loop n s u links cost time ways psi sum₀ bad base near more flow₀ worse₀ left₀ sum flow worse left = Walking n s u links cost time ways psi sum₀ bad left sum flow worse
+
+abbrev μ-loop : tie.MeasureT-loop
+μ-loop n s u links cost time ways psi sum₀ bad base near more flow₀ worse₀ left₀ sum flow worse left = left
+
+mul-base : tie.Need-mul-base Inv-loop μ-loop
+mul-base c =
+    let start : tie.Start Inv-loop μ-loop = search in
+    let p = start .pre in let f = flat-lt _ _ _ (p .most) (p .inside) (p .inside) in omega arith
+
+add-wide : tie.Need-add-wide Inv-loop μ-loop
+add-wide c =
+    let loop : tie.At-loop Inv-loop μ-loop = search in let start : tie.Start Inv-loop μ-loop = search in
+    let i = walking-inside _ _ _ _ _ _ _ _ _ _ (start .pre) (loop .loop .inv) (c .lowest .ensures) in omega arith
+
+mul-wide-2 : tie.Need-mul-wide-2 Inv-loop μ-loop
+mul-wide-2 c =
+    let loop : tie.At-loop Inv-loop μ-loop = search in let start : tie.Start Inv-loop μ-loop = search in
+    let i = walking-inside _ _ _ _ _ _ _ _ _ _ (start .pre) (loop .loop .inv) (c .lowest .ensures) in omega arith
+
+shared-slice-read-wide-2 : tie.Need-shared-slice-read-wide-2 Inv-loop μ-loop
+shared-slice-read-wide-2 c =
+    let lowest : tie.After-lowest Inv-loop μ-loop = search in let loop : tie.At-loop Inv-loop μ-loop = search in
+    let start : tie.Start Inv-loop μ-loop = search in
+    walking-inside _ _ _ _ _ _ _ _ _ _ (start .pre) (loop .loop .inv) (lowest .lowest .ensures) .1
+
+add-via : tie.Need-add-via Inv-loop μ-loop
+add-via c =
+    let shared-slice-known6 : tie.After-shared-slice-known6 Inv-loop μ-loop = search in
+    let lowest : tie.After-lowest Inv-loop μ-loop = search in let wide : tie.After-wide Inv-loop μ-loop = search in
+    let shared-slice-known4 : tie.After-shared-slice-known4 Inv-loop μ-loop = search in
+    let start : tie.Start Inv-loop μ-loop = search in
+    let a = start .args in omega (arith, wide .wide .ensures, shared-slice-known4 .shared-slice-known4 .given (a .u), c .wide2 .ensures, shared-slice-known6 .shared-slice-known6 .given (a .u * a .n + lowest .lowest .result))
+
+mul-wide-3 : tie.Need-mul-wide-3 Inv-loop μ-loop
+mul-wide-3 c =
+    let lowest : tie.After-lowest Inv-loop μ-loop = search in let loop : tie.At-loop Inv-loop μ-loop = search in
+    let start : tie.Start Inv-loop μ-loop = search in
+    let i = walking-inside _ _ _ _ _ _ _ _ _ _ (start .pre) (loop .loop .inv) (lowest .lowest .ensures) in omega (arith, start .pre .most)
+
+shared-slice-read-wide-3 : tie.Need-shared-slice-read-wide-3 Inv-loop μ-loop
+shared-slice-read-wide-3 c =
+    let lowest : tie.After-lowest Inv-loop μ-loop = search in let loop : tie.At-loop Inv-loop μ-loop = search in
+    let start : tie.Start Inv-loop μ-loop = search in
+    let i = walking-inside _ _ _ _ _ _ _ _ _ _ (start .pre) (loop .loop .inv) (lowest .lowest .ensures) in omega (arith, start .pre .timed)
+
+mul-flow : tie.Need-mul-flow Inv-loop μ-loop
+mul-flow c =
+    let lowest : tie.After-lowest Inv-loop μ-loop = search in let loop : tie.At-loop Inv-loop μ-loop = search in
+    let start : tie.Start Inv-loop μ-loop = search in
+    let f = walking-flow _ _ _ _ _ _ _ _ _ _ (start .pre) (loop .loop .inv) (lowest .lowest .ensures) (c .select-usize .ensures) in omega arith
+
+element-copy-out-flow : tie.Need-element-copy-out-flow Inv-loop μ-loop
+element-copy-out-flow c =
+    let lowest : tie.After-lowest Inv-loop μ-loop = search in let loop : tie.At-loop Inv-loop μ-loop = search in
+    let start : tie.Start Inv-loop μ-loop = search in
+    walking-flow _ _ _ _ _ _ _ _ _ _ (start .pre) (loop .loop .inv) (lowest .lowest .ensures) (c .select-usize .ensures) .0
+
+add-flow : tie.Need-add-flow Inv-loop μ-loop
+add-flow c =
+    let select-usize : tie.After-select-usize Inv-loop μ-loop = search in
+    let lowest : tie.After-lowest Inv-loop μ-loop = search in let loop : tie.At-loop Inv-loop μ-loop = search in
+    let start : tie.Start Inv-loop μ-loop = search in
+    let f = walking-flow _ _ _ _ _ _ _ _ _ _ (start .pre) (loop .loop .inv) (lowest .lowest .ensures) (select-usize .select-usize .ensures) in omega arith
+
+mul-sum : tie.Need-mul-sum Inv-loop μ-loop
+mul-sum c =
+    let lowest : tie.After-lowest Inv-loop μ-loop = search in let loop : tie.At-loop Inv-loop μ-loop = search in
+    let start : tie.Start Inv-loop μ-loop = search in
+    let i = walking-inside _ _ _ _ _ _ _ _ _ _ (start .pre) (loop .loop .inv) (lowest .lowest .ensures) in omega (arith, start .pre .most)
+
+element-copy-out-sum : tie.Need-element-copy-out-sum Inv-loop μ-loop
+element-copy-out-sum c =
+    let lowest : tie.After-lowest Inv-loop μ-loop = search in let loop : tie.At-loop Inv-loop μ-loop = search in
+    let start : tie.Start Inv-loop μ-loop = search in
+    let i = walking-inside _ _ _ _ _ _ _ _ _ _ (start .pre) (loop .loop .inv) (lowest .lowest .ensures) in omega (arith, start .pre .most)
+
+element-write-sum : tie.Need-element-write-sum Inv-loop μ-loop
+element-write-sum c =
+    let lowest : tie.After-lowest Inv-loop μ-loop = search in let loop : tie.At-loop Inv-loop μ-loop = search in
+    let start : tie.Start Inv-loop μ-loop = search in
+    let i = walking-inside _ _ _ _ _ _ _ _ _ _ (start .pre) (loop .loop .inv) (lowest .lowest .ensures) in omega (arith, start .pre .most)
+
+loop-again : tie.Need-loop-again Inv-loop μ-loop
+loop-again c =
+    let select-u32 : tie.After-select-u32 Inv-loop μ-loop = search in
+    let select-usize : tie.After-select-usize Inv-loop μ-loop = search in
+    let wide3 : tie.After-wide3 Inv-loop μ-loop = search in let wide2 : tie.After-wide2 Inv-loop μ-loop = search in
+    let lowest : tie.After-lowest Inv-loop μ-loop = search in let loop : tie.At-loop Inv-loop μ-loop = search in
+    let wide : tie.After-wide Inv-loop μ-loop = search in let start : tie.Start Inv-loop μ-loop = search in
+    rw (c .rest .ensures) (walking-goes _ _ _ _ _ _ _ _ _ _ (start .pre) (lowest .lowest .ensures) (wide .wide .ensures) (wide2 .wide2 .ensures) (wide3 .wide3 .ensures) (select-usize .select-usize .ensures) (loop .loop .inv) (select-u32 .select-u32 .ensures))
+
+returns : tie.Need-returns Inv-loop μ-loop
+returns c =
+    let loop : tie.At-loop Inv-loop μ-loop = search in let start : tie.Start Inv-loop μ-loop = search in
+    walking-ends _ _ _ _ _ _ _ _ _ _ (start .pre) (rw (c .loop-test .left) at (loop .loop .inv))
+
+pub scan-spec : {M : Type 1} → statement M
+scan-spec =
+    tie.close
+    (tie.spec
+    Inv-loop μ-loop mul-base (λ c. omega arith) (λ c. omega arith) (λ c κs. tt) (λ c. omega arith)
+    (λ c. omega arith) (λ c. search (needs, walking-starts)) (λ c κs. omega arith) add-wide mul-wide-2
+    shared-slice-read-wide-2 (λ c κs. tt) add-via mul-wide-3 shared-slice-read-wide-3 (λ c κs. tt) (λ c κs. tt)
+    mul-flow element-copy-out-flow add-flow (λ c κs. tt) mul-sum element-copy-out-sum
+    (λ c. search (needs, walking-adds)) element-write-sum (λ c κs. omega arith) (λ c. omega arith) loop-again
+    returns)

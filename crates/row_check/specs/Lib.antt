@@ -1,0 +1,4 @@
+pub mod Promise
+pub mod Tests
+pub mod Handed
+pub mod Tight

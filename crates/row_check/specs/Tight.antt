@@ -1,0 +1,75 @@
+-- What going over links asks and tells: the ways and the flow of the tight ones, and whether one improves a time. Assumes nothing.
+use Prim.Native.Nat.{ℕ, _+_, _*_, _^_, _<_, _≤_}
+use mathlib.Core.Path.{_≡_}
+use mathlib.Core.Logic.{_≢_}
+use mathlib.Core.Bool.{Bool, true, false, cond}
+use mathlib.Core.List.{List}
+use lib.Dec.{eqb}
+use lib.ListN.{length}
+use Rattle.routes.specs.Route.{mark, link, has, sumTo}
+use Rattle.routes.specs.Equations.{inflow, outflow}
+use Rattle.links.specs.Promise.{Below, masked, viaOf}
+use Rattle.row_check.specs.Tests.{at}
+
+-- what going over links from u asks: ways up to limit + 1, at most 23; from each stop the scale and a share, at most 2^41;
+-- and the ways of 64 stops in a sum, at most 64 × 23 = 1472
+pub record Scan (n s u links : ℕ) (cost time ways psi sum : List ℕ) : Type 0 where
+  pub most : n ≤ 64
+  pub source : s < n
+  pub inside : u < n
+  pub square : length cost ≡ n * n
+  pub timed : length time ≡ n
+  pub counted : length ways ≡ n
+  pub room : length psi ≡ 64
+  pub sums : length sum ≡ 64
+  pub below : Below n links
+  pub few : at ways u ≤ 23
+  pub light : (t : ℕ) → t < n → at psi t ≤ 2 ^ 41
+  pub quiet : at psi s ≡ 0
+  pub small : (t : ℕ) → t < n → at sum t ≤ 1472
+
+-- what the link from u to t gives where it is tight
+abbrev pub ifTight : ℕ → ℕ → List ℕ → List ℕ → ℕ → ℕ → ℕ
+ifTight n u cost time t x = cond (eqb (viaOf n u cost time t) (at time t)) x 0
+
+-- and tells, where it was known before whether some link improves a time
+pub record Scans (n u links : ℕ) (cost time ways psi old sum : List ℕ) (before : Bool) (flow : ℕ) (bad : Bool) : Type 0 where
+  pub sums : length sum ≡ 64
+  pub flows : flow ≡ sumTo n (λ t. cond (has links t) (ifTight n u cost time t (at psi t)) 0)
+  pub relaxed : bad ≡ false → (before ≡ false) × ((t : ℕ) → has links t ≡ true → at time t ≤ viaOf n u cost time t)
+  pub good : before ≡ false → ((t : ℕ) → has links t ≡ true → at time t ≤ viaOf n u cost time t) → bad ≡ false
+  pub added : (t : ℕ) → at sum t ≡ cond (has links t) (at old t + ifTight n u cost time t (at ways u)) (at old t)
+
+-- what going over the links of all stops asks
+pub record Balance (n s : ℕ) (cost out time ways psi sum flow : List ℕ) : Type 0 where
+  pub most : n ≤ 64
+  pub source : s < n
+  pub square : length cost ≡ n * n
+  pub masks : length out ≡ 64
+  pub linked : (u t : ℕ) → u < n → has (at out u) t ≡ true → (t < n) × (0 < at cost (u * n + t))
+  pub timed : length time ≡ n
+  pub counted : length ways ≡ n
+  pub bounded : (t : ℕ) → t < n → at time t ≤ mark
+  pub room : length psi ≡ 64
+  pub sums : length sum ≡ 64
+  pub flows : length flow ≡ 64
+  pub few : (t : ℕ) → t < n → at ways t ≤ 23
+  pub light : (t : ℕ) → t < n → at psi t ≤ 2 ^ 41
+  pub quiet : at psi s ≡ 0
+  pub empty : (t : ℕ) → t < n → at sum t ≡ 0
+
+-- the links from u improve no time
+abbrev pub Relaxed : ℕ → List ℕ → List ℕ → List ℕ → ℕ → Type 0
+Relaxed n cost out time u = (t : ℕ) → t < n → link (masked n cost out) u t ≡ true → at time u ≢ mark → at time t ≤ at time u + masked n cost out u t
+
+-- and tells: the source has the sum 1 and the flow 0
+pub record Balanced (n s : ℕ) (cost out time ways psi sum flow : List ℕ) (bad : Bool) : Type 0 where
+  pub sums : length sum ≡ 64
+  pub room : length flow ≡ 64
+  pub relaxed : bad ≡ false → (u : ℕ) → u < n → Relaxed n cost out time u
+  pub good : ((u : ℕ) → u < n → Relaxed n cost out time u) → bad ≡ false
+  pub one : at sum s ≡ 1
+  pub summed : (t : ℕ) → t < n → t ≢ s → at sum t ≡ inflow (masked n cost out) n (at time) (at ways) t
+  pub none : at flow s ≡ 0
+  pub flows : (u : ℕ) → u < n → u ≢ s → at flow u ≡ outflow (masked n cost out) n (at time) (at psi) u
+  pub light : (u : ℕ) → u < n → at flow u ≤ 2 ^ 47

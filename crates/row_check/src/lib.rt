@@ -1,0 +1,55 @@
+// Says whether lent parts are the row of one source: by local equations, with no order and no work done again.
+mod flows;
+mod handed;
+mod tests;
+
+ghost use mathlib.Core.Path.{_≡_};
+ghost use lib.ListN.{length};
+ghost use Rattle.links.specs.Promise.{masked, Task};
+ghost use Rattle.row_check.specs.Promise.{isRow};
+
+// The three parts are the row of source s over the links of the masks.
+pub fn check(
+    n: usize,
+    s: usize,
+    cost: &[u32],
+    out: &[u64; 64],
+    scale: u64,
+    limit: u32,
+    mark: u32,
+    time: &[u32],
+    ways: &[u32],
+    share: &[u64],
+) -> bool
+    requires { ⌜ Task n s (now cost) (now out) scale limit mark ⌝ }
+    requires { ⌜ (length (now time) ≡ n) × (length (now ways) ≡ n) × (length (now share) ≡ n) ⌝ }
+    ensures { λ r. ⌜ r ≡ isRow (masked n (now (cost .entry)) (now (out .entry))) n s limit scale (now (time .entry)) (now (ways .entry)) (now (share .entry)) ⌝ }
+{
+    if time[s] != 0 {
+        return false;
+    }
+    if ways[s] != 1 {
+        return false;
+    }
+    if share[s] != 0 {
+        return false;
+    }
+    let top = limit + 1;
+    if !tests::bounded(n, top, mark, time, ways) {
+        return false;
+    }
+    if !tests::light(n, share) {
+        return false;
+    }
+    let mut psi = [0u64; 64];
+    handed::hand_back(n, s, limit, scale, ways, share, &mut psi);
+    let mut sum = [0u32; 64];
+    let mut flow = [0u64; 64];
+    if flows::flows(n, s, cost, out, time, ways, &psi, &mut sum, &mut flow) {
+        return false;
+    }
+    if !tests::balanced(n, ways, share, &flow) {
+        return false;
+    }
+    tests::counted(n, top, ways, &sum)
+}

@@ -1,0 +1,56 @@
+// The tests over all stops, one after another.
+use links::numbers;
+ghost use mathlib.Core.Path.{_≡_};
+ghost use Prim.Native.Nat.{_≤_};
+ghost use lib.ListN.{length};
+ghost use Rattle.routes.specs.Route.{allTo};
+ghost use Rattle.row_check.specs.Tests.{plain, little, paid, agreed, Pays};
+
+// No way is above `top`, and the stops without ways are those of the mark.
+pub fn bounded(n: usize, top: u32, mark: u32, time: &[u32], ways: &[u32]) -> bool
+    requires { ⌜ (length (now time) ≡ n) × (length (now ways) ≡ n) ⌝ }
+    ensures { λ r. ⌜ r ≡ allTo n (plain top mark (now (time .entry)) (now (ways .entry))) ⌝ }
+{
+    let mut ok = true;
+    for t in 0..n {
+        ok &= (ways[t] <= top) & ((time[t] == mark) == (ways[t] == 0));
+    }
+    ok
+}
+
+// Every share is below 2^40. A right one is: at most 64 times the scale, which is at most 2^32. And below it no sum of
+// the check outgrows a word: a stop hands back at most 2^41, and 2^47 flows back to one.
+pub fn light(n: usize, share: &[u64]) -> bool
+    requires { ⌜ length (now share) ≡ n ⌝ }
+    ensures { λ r. ⌜ r ≡ allTo n (little (now (share .entry))) ⌝ }
+{
+    let mut over: u64 = 0;
+    for t in 0..n {
+        over |= share[t] / 1099511627776;
+    }
+    over == 0
+}
+
+// Every share is what flows back times the ways.
+pub fn balanced(n: usize, ways: &[u32], share: &[u64], flow: &[u64; 64]) -> bool
+    requires { ⌜ Pays n (now ways) (now share) (now flow) ⌝ }
+    ensures { λ r. ⌜ r ≡ allTo n (paid (now (ways .entry)) (now (share .entry)) (now (flow .entry))) ⌝ }
+{
+    let mut wrong: u64 = 0;
+    for u in 0..n {
+        wrong |= share[u] ^ (numbers::wide(ways[u]) * flow[u]);
+    }
+    wrong == 0
+}
+
+// Every stop has the ways that were summed, up to `top`.
+pub fn counted(n: usize, top: u32, ways: &[u32], sum: &[u32; 64]) -> bool
+    requires { ⌜ (length (now ways) ≡ n) × (length (now sum) ≡ 64) × (n ≤ 64) ⌝ }
+    ensures { λ r. ⌜ r ≡ allTo n (agreed top (now (ways .entry)) (now (sum .entry))) ⌝ }
+{
+    let mut ok = true;
+    for t in 0..n {
+        ok &= ways[t] == numbers::min_u32(top, sum[t]);
+    }
+    ok
+}

@@ -1,0 +1,9 @@
+pub mod Measured
+pub mod Parts
+pub mod Sums
+pub mod Valid
+pub mod Masked
+pub mod FilledRows
+pub mod Worked
+pub mod Useful
+pub mod Audited

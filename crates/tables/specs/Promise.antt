@@ -1,0 +1,113 @@
+-- What the work on tables promises, by rows of document 01's definitions. Assumes nothing.
+use Prim.Native.Nat.{ℕ, _+_, _*_, _^_, _<_, _≤_, _∣_}
+use mathlib.Core.Path.{_≡_}
+use mathlib.Core.Logic.{_≢_}
+use mathlib.Core.Bool.{Bool, true, cond, not, _&&_, _||_}
+use mathlib.Core.List.{List, _++_}
+use lib.Dec.{eqb, ltb, leb}
+use lib.ListN.{length, getD, take, drop}
+use Rattle.routes.specs.Route.{Costs, sumTo, listTo, allTo, has, leastTime, ways}
+use Rattle.routes.specs.Equations.{cappedWays, openShare}
+use Rattle.links.specs.Promise.{masked}
+use Rattle.row_check.specs.Promise.{isRow}
+use Rattle.book.specs.Hall.{largestCost, entry, filled, uncrowded}
+
+-- a limit of ways m and a scale L that row work takes: every number of ways up to the limit divides the scale
+pub record Measure (m L : ℕ) : Type 0 where
+  pub some : 0 < m
+  pub few : m ≤ 22
+  pub fine : L ≤ 2 ^ 32
+  pub whole : (k : ℕ) → 0 < k → k ≤ m → k ∣ L
+
+-- the place r where row s of a table begins
+pub record Starts (n s r : ℕ) : Type 0 where
+  pub place : r ≡ s * n
+  pub ends : r + n ≤ n * n
+  pub small : n * n ≤ 4096
+
+-- the part of a table that belongs to source s
+abbrev pub part : ℕ → List ℕ → ℕ → List ℕ
+part n l s = take n (drop (s * n) l)
+
+-- the parts of source s in the tables of times, ways and shares, and its row over the costs W
+pub record Parts : Type 0 where
+  pub time : List ℕ
+  pub ways : List ℕ
+  pub share : List ℕ
+
+abbrev pub parts : ℕ → (time ways share : List ℕ) → ℕ → Parts
+parts n time ways share s = record { time = part n time s; ways = part n ways s; share = part n share s }
+
+abbrev pub rowOf : (m L : ℕ) → Costs → ℕ → ℕ → Parts
+rowOf m L W n s =
+    record { time = listTo n (leastTime W n s); ways = listTo n (cappedWays W n s m); share = listTo n (openShare W n s m L) }
+
+-- the row of source s is free of crowded pairs: none has more than m ways
+abbrev pub free : (m : ℕ) → Costs → ℕ → ℕ → Bool
+free m W n s = allTo n (λ t. leb (ways W n s t) m)
+
+-- what row work over the links of the masks needs, for every source
+pub record Job (n : ℕ) (cost out : List ℕ) : Type 0 where
+  pub most : n ≤ 64
+  pub square : length cost ≡ n * n
+  pub masks : length out ≡ 64
+  pub cheap : (u t : ℕ) → u < n → t < n → entry n cost u t ≤ largestCost
+  pub linked : (u t : ℕ) → u < n → has (getD out u 0) t ≡ true → (t < n) × (0 < entry n cost u t)
+
+-- three tables of a hall of n stops, of any content
+pub record Square (n : ℕ) (time ways share : List ℕ) : Type 0 where
+  pub times : length time ≡ n * n
+  pub counts : length ways ≡ n * n
+  pub shares : length share ≡ n * n
+
+-- row s is worked out over W, the others are as they were
+pub record FilledRow (m L : ℕ) (W : Costs) (n s : ℕ) (time ways share time′ ways′ share′ : List ℕ) (crowded : Bool) : Type 0 where
+  pub lengths : Square n time′ ways′ share′
+  pub row : parts n time′ ways′ share′ s ≡ rowOf m L W n s
+  pub others : (u : ℕ) → u ≢ s → parts n time′ ways′ share′ u ≡ parts n time ways share u
+  pub said : crowded ≡ not (free m W n s)
+
+-- the rows of a set are worked out over W, the others are as they were; says whether one of the set has a crowded pair
+pub record FilledRows (m L : ℕ) (W : Costs) (n set : ℕ) (time ways share time′ ways′ share′ : List ℕ) (crowded : Bool) : Type 0 where
+  pub lengths : Square n time′ ways′ share′
+  pub rows : (s : ℕ) → parts n time′ ways′ share′ s ≡ cond (has set s) (rowOf m L W n s) (parts n time ways share s)
+  pub said : crowded ≡ not (allTo n (λ s. not (has set s) || free m W n s))
+
+-- the three tables of the hall with these costs
+pub record Worked (L n : ℕ) (cost time ways share : List ℕ) : Type 0 where
+  pub times : time ≡ filled L n cost .time
+  pub counts : ways ≡ filled L n cost .ways
+  pub shares : share ≡ filled L n cost .share
+
+-- the tables of the hall with these costs where no pair is crowded, else the tables as they were; says which
+pub record FilledAll (m L n : ℕ) (cost time ways share time′ ways′ share′ : List ℕ) (done : Bool) : Type 0 where
+  pub said : done ≡ uncrowded m n cost
+  pub times : time′ ≡ cond done (filled L n cost .time) time
+  pub counts : ways′ ≡ cond done (filled L n cost .ways) ways
+  pub shares : share′ ≡ cond done (filled L n cost .share) share
+
+-- a table of shares whose sums fit: a share is at most 62 × 2^32
+pub record Shares (n : ℕ) (share : List ℕ) : Type 0 where
+  pub most : n ≤ 64
+  pub square : length share ≡ n * n
+  pub small : (s v : ℕ) → s < n → v < n → entry n share s v < 2 ^ 38
+
+-- the sums of the shares of each stop over the first k sources, in front of the rest of a list
+abbrev pub summed : (n k : ℕ) → (share sum : List ℕ) → List ℕ
+summed n k share sum = listTo n (λ v. sumTo k (λ s. entry n share s v)) ++ drop n sum
+
+-- no link is cheaper than the time between its ends
+abbrev pub noShortcut : (cost time : List ℕ) → Bool
+noShortcut cost time = allTo (length cost) (λ i. not (ltb 0 (getD cost i 0) && ltb (getD cost i 0) (getD time i 0)))
+
+-- no entry is above the limit
+abbrev pub noneAbove : ℕ → List ℕ → Bool
+noneAbove limit l = allTo (length l) (λ i. leb (getD l i 0) limit)
+
+-- the parts of every source are its row over the links of the masks
+abbrev pub rowsPass : (m L n : ℕ) → (cost out time ways share : List ℕ) → Bool
+rowsPass m L n cost out time ways share = allTo n (λ s. isRow (masked n cost out) n s m L (part n time s) (part n ways s) (part n share s))
+
+-- each score is the sum of its shares
+abbrev pub scoresPass : ℕ → (share score : List ℕ) → Bool
+scoresPass n share score = allTo n (λ v. eqb (getD score v 0) (sumTo n (λ s. entry n share s v)))
