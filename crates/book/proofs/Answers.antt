@@ -1,39 +1,50 @@
--- The parts of an answer: what a call has no use for is empty. Assumes nothing.
-use Prim.Native.Nat.{ℕ, _^_}
-use mathlib.Core.Path.{_≡_, refl, ap}
-use mathlib.Core.Bool.{Bool, true, false, cond, _&&_, and-false}
-use mathlib.Core.List.{List, [], _++_}
-use lib.ListN.{length, drop}
-use Rattle.routes.specs.Route.{sumTo, setOf}
-use Rattle.routes.proofs.Sums.{sumTo-zero}
+-- The parts of an answer: its refusal is the call's, and what a call has no use for is empty. Assumes nothing.
+use Prim.Native.Nat.{ℕ}
+use mathlib.Core.Path.{_≡_, refl, _∙_, ap}
+use mathlib.Core.Bool.{Bool, true, false, cond}
+use mathlib.Core.List.{List, []}
 use Rattle.book.specs.Hall.{Tables}
-use Rattle.book.specs.Call.{Ask, emptyHall, audit, workOut, edit, imageWrite, imageRead, Call, accepted, quiet, names, writes, rule, Answer, reply, refusal, answer}
-use Rattle.book.specs.Contract.{ofRefusal}
+use Rattle.book.specs.Call.{Ask, emptyHall, audit, workOut, edit, imageWrite, imageRead, Call, accepted, Answer, plain, Rule, rule, reply, refusal, answer, Done}
+use Rattle.book.specs.Book.{Book, bookRefusal, bookAnswer}
 use Rattle.book.specs.declared.Refusal.{Refusal}
+use Rattle.book.specs.declared.Refusal.the-variants.{Accepted, BadSize, BadLength, BadTables, BadStop, BadCost, LinkPresent, LinkAbsent, NotCheaper, BadImage, ShortBuffer, TooManyWays}
 
--- a set of no source is 0, and so is its number
-pub untouched : (n : ℕ) (r : Refusal) (p : ℕ → Bool) → ((s : ℕ) → p s ≡ false) → (k : ℕ) (b : List ℕ) →
-    _≡_ {A = Answer} (record { refusal = r; touched = setOf n p; rows = sumTo n (λ s. cond (p s) 1 0); length = k; buffer = b })
-    (record { refusal = r; touched = 0; rows = 0; length = k; buffer = b })
-unfolding setOf
-untouched n r p h k b = λ i. record {
-  refusal = r;
-  touched = sumTo-zero n {f = λ s. cond (p s) (2 ^ s) 0} (λ s l. rw (h s)) i;
-  rows = sumTo-zero n {f = λ s. cond (p s) 1 0} (λ s l. rw (h s)) i;
-  length = k;
-  buffer = b;
-}
+-- an accepted call says so
+says-accepted : (n : ℕ) (ask : Ask) (cost : List ℕ) → rule n ask cost .says .refusal ≡ Accepted
+unfolding rule
+says-accepted n emptyHall cost = refl
+says-accepted n audit cost = refl
+says-accepted n (workOut c) cost = refl
+says-accepted n (edit e) cost = refl
+says-accepted n (imageWrite buffer) cost = refl
+says-accepted n (imageRead image) cost = refl
 
--- a quiet call says its refusal alone
-pub reply-quiet : (n : ℕ) (r : Refusal) → reply n r quiet ≡ ofRefusal r
-unfolding reply
-reply-quiet n r = go (accepted r)
-  where
-    go : (b : Bool) →
-        _≡_ {A = Answer} (record { refusal = r; touched = setOf n (λ s. b && false); rows = sumTo n (λ s. cond (b && false) 1 0); length = length {A = ℕ} (cond b [] []); buffer = cond b [] [] ++ drop (length {A = ℕ} (cond b [] [])) [] })
-        (ofRefusal r)
-    go true = untouched n r (λ s. false) (λ s. refl) 0 []
-    go false = untouched n r (λ s. false) (λ s. refl) 0 []
+-- so a reply has the refusal that it is made of
+reply-refusal : (r : Refusal) (x : Rule) → x .says .refusal ≡ Accepted → reply r x .refusal ≡ r
+reply-refusal Accepted x e = e
+reply-refusal BadSize x e = refl
+reply-refusal BadLength x e = refl
+reply-refusal BadTables x e = refl
+reply-refusal BadStop x e = refl
+reply-refusal BadCost x e = refl
+reply-refusal LinkPresent x e = refl
+reply-refusal LinkAbsent x e = refl
+reply-refusal NotCheaper x e = refl
+reply-refusal BadImage x e = refl
+reply-refusal ShortBuffer x e = refl
+reply-refusal TooManyWays x e = refl
+
+-- the answer of a call, of the book, and of a call that was made
+pub answer-refusal : (c : Call) (t : Tables) → answer c t .refusal ≡ refusal c t
+unfolding answer
+answer-refusal c t = reply-refusal (refusal c t) (rule (c .n) (c .ask) (t .cost)) (says-accepted (c .n) (c .ask) (t .cost))
+
+pub book-refusal : (c : Call) (b : Book) → bookAnswer c b .refusal ≡ bookRefusal c b
+unfolding bookAnswer
+book-refusal c b = reply-refusal (bookRefusal c b) (rule (c .n) (c .ask) (b .links)) (says-accepted (c .n) (c .ask) (b .links))
+
+pub done-refusal : (c : Call) (t : Tables) {t′ : Tables} {a : Answer} → Done c t t′ a → a .refusal ≡ refusal c t
+done-refusal c t d = ap (λ a. a .refusal) (d .answered) ∙ answer-refusal c t
 
 -- only an edit names sources, and only an image write writes bytes
 abbrev pub NoSet : Answer → Type 0
@@ -50,34 +61,31 @@ Parts (edit e) a = NoBytes a
 Parts (imageWrite buffer) a = NoSet a
 Parts (imageRead image) a = NoSet a × NoBytes a
 
-quiet-parts : (n : ℕ) (r : Refusal) → NoSet (reply n r quiet) × NoBytes (reply n r quiet)
-quiet-parts n r =
-    let e = reply-quiet n r in
-    ((ap (λ a. a .touched) e, ap (λ a. a .rows) e), (ap (λ a. a .length) e, ap (λ a. a .buffer) e))
-
-names-parts : (n : ℕ) (r : Refusal) (sources : ℕ → Bool) → NoBytes (reply n r (names sources))
-unfolding reply
-names-parts n r sources = none (accepted r)
+-- what holds of what a call says and of a refusal alone holds of its answer
+pub reply-either : (P : Answer → Type 0) (r : Refusal) (x : Rule) → P (x .says) → P (plain r (x .lentBuffer)) → P (reply r x)
+reply-either P r x said refused = go (accepted r)
   where
-    none : (b : Bool) → let bytes : List ℕ = cond b [] [] in (length bytes ≡ 0) × (bytes ++ drop (length bytes) [] ≡ [])
-    none true = (refl, refl)
-    none false = (refl, refl)
-
-writes-parts : (n : ℕ) (r : Refusal) (bytes buffer : List ℕ) → NoSet (reply n r (writes bytes buffer))
-unfolding reply
-writes-parts n r bytes buffer =
-    let e = untouched n r (λ s. accepted r && false) (λ s. rw and-false) 0 [] in
-    (ap (λ a. a .touched) e, ap (λ a. a .rows) e)
+    go : (b : Bool) → P (cond b (x .says) (plain r (x .lentBuffer)))
+    go true = said
+    go false = refused
 
 -- the answer of every call, on any tables
 pub answer-parts : (c : Call) (t : Tables) → Parts (c .ask) (answer c t)
 unfolding answer Parts rule
-answer-parts c t = go (c .ask) (refusal c t)
+answer-parts c t = reply-either (Parts (c .ask)) (refusal c t) (rule (c .n) (c .ask) (t .cost)) (said (c .ask)) (alone (c .ask))
   where
-    go : (ask : Ask) (r : Refusal) → Parts ask (reply (c .n) r (rule (c .n) ask (t .cost) .says))
-    go emptyHall r = quiet-parts (c .n) r
-    go audit r = quiet-parts (c .n) r
-    go (workOut cost) r = quiet-parts (c .n) r
-    go (edit e) r = names-parts (c .n) r _
-    go (imageWrite buffer) r = writes-parts (c .n) r _ buffer
-    go (imageRead image) r = quiet-parts (c .n) r
+    said : (ask : Ask) → Parts ask (rule (c .n) ask (t .cost) .says)
+    said emptyHall = ((refl, refl), (refl, refl))
+    said audit = ((refl, refl), (refl, refl))
+    said (workOut cost) = ((refl, refl), (refl, refl))
+    said (edit e) = (refl, refl)
+    said (imageWrite buffer) = (refl, refl)
+    said (imageRead image) = ((refl, refl), (refl, refl))
+
+    alone : (ask : Ask) → Parts ask (plain (refusal c t) (rule (c .n) ask (t .cost) .lentBuffer))
+    alone emptyHall = ((refl, refl), (refl, refl))
+    alone audit = ((refl, refl), (refl, refl))
+    alone (workOut cost) = ((refl, refl), (refl, refl))
+    alone (edit e) = (refl, refl)
+    alone (imageWrite buffer) = (refl, refl)
+    alone (imageRead image) = ((refl, refl), (refl, refl))

@@ -2,7 +2,7 @@
 use Prim.Native.Nat.{ℕ, _*_, _-_, _<_, _≤_}
 use native.Mathlib.Nat.{mul-le-mul-right}
 use native.Mathlib.Omega.{arith}
-use mathlib.Core.Path.{_≡_, refl, sym, _∙_, ap, subst, subst⁻¹}
+use mathlib.Core.Path.{_≡_, refl, sym, _∙_, subst⁻¹}
 use mathlib.Core.Logic.{_≢_}
 use mathlib.Core.Bool.{Bool, true, false, and-eq-true-iff}
 use mathlib.Core.List.{List}
@@ -16,10 +16,11 @@ use Rattle.routes.proofs.Times.{least-bound}
 use Rattle.routes.proofs.Flows.{flows}
 use Rattle.routes.proofs.Bounds.{score-limit}
 use Rattle.book.specs.Hall.{Tables, mostStops, largestCost, mostWays, scale, entry, filled, uncrowded}
-use Rattle.book.specs.Call.{Call, Answer, reply, refusal, answer, Done}
+use Rattle.book.specs.Call.{Call, Answer, refusal, Done}
 use Rattle.book.specs.Book.{Step, run, kept, Sequence, Started}
 use Rattle.book.specs.declared.Refusal.the-variants.{Accepted}
 use Rattle.book.proofs.Tables.{entry-table, valid-costs}
+use Rattle.book.proofs.Answers.{done-refusal}
 use Rattle.book.proofs.Steps.{Held, accepted-held, accepted-filled}
 use Rattle.book.proofs.Sequence.{of-books}
 
@@ -72,9 +73,8 @@ module _ (n : ℕ) (cost : List ℕ) (h : Held n cost) where
 
 -- the tables that an accepted call leaves, whatever it was lent
 pub accepted-bounded : (c : Call) (t t′ : Tables) (a : Answer) → Done c t t′ a → a .refusal ≡ Accepted → Bounded (c .n) t′
-unfolding answer reply
 accepted-bounded c t t′ a d ok =
-    let taken : refusal c t ≡ Accepted = sym (ap (λ a. a .refusal) (d .answered)) ∙ ok in
+    let taken : refusal c t ≡ Accepted = sym (done-refusal c t d) ∙ ok in
     subst⁻¹ (Bounded (c .n)) (d .left ∙ accepted-filled c t taken) (bounded (c .n) _ (accepted-held c t taken))
 
 -- the tables after every sequence of calls

@@ -2,9 +2,9 @@
 -- and images written and read. Assumes nothing.
 use Prim.Native.Nat.{ℕ, zero, suc, _*_, _%_, _<_, _≤_, _∣_}
 use native.Mathlib.Nat.{dvd-of-mod-eq-zero, dvd-mul-right-of-dvd, div-mul-cancel, lt-irrefl}
-use mathlib.Core.Path.{_≡_, refl, _∙_, ap}
+use mathlib.Core.Path.{_≡_, refl, sym, _∙_, ap}
 use mathlib.Core.Logic.{_≢_}
-use mathlib.Core.Bool.{Bool, true, false, cond, and-eq-true-iff}
+use mathlib.Core.Bool.{Bool, true, false, cond, _&&_, and-eq-true-iff}
 use mathlib.Core.List.{List, [], _∷_, _++_}
 use lib.Dec.{eqb, leb, lit<}
 use lib.ListN.{length, take, drop}
@@ -13,11 +13,11 @@ use borrow.Author.Tests.{eqb-true, eq-eqb, ne-eqb, leb-true, le-leb}
 use Rattle.routes.specs.Route.{Costs, allTo, ways, through, portion}
 use Rattle.routes.proofs.Sums.{all-true}
 use Rattle.book.specs.Hall.{Tables, mostStops, mostWays, scale, upTo, entry, filled, sized, validPair, validCosts, uncrowded, right, imageOf, isImage, costsOf}
-use Rattle.book.specs.Call.{Call, audit, edit, imageWrite, imageRead, accepted, costTests, withEdit, stays, rule, Answer, reply, refusal, after, answer}
+use Rattle.book.specs.Call.{Call, audit, edit, imageWrite, imageRead, accepted, costTests, withEdit, Rule, rule, Answer, refusal, after, answer}
 use Rattle.book.proofs.Bytes.{Bytes}
 use Rattle.book.proofs.Images.{written-read, written-costs, read-written, read-valid, length-read}
 use Rattle.book.proofs.Filled.{sized-filled, sized-cost, right-filled, right-true}
-use Rattle.book.proofs.Passed.{need-true, passed, audited, edit-alone}
+use Rattle.book.proofs.Passed.{need-true, chain-true, passed, audited, edit-alone}
 use Rattle.book.proofs.NoLinks.{valid-none, uncrowded-none}
 use Rattle.book.specs.declared.Edit.{Edit}
 use Rattle.book.specs.declared.Refusal.the-variants.{Accepted, BadStop, BadImage, TooManyWays}
@@ -44,21 +44,27 @@ one-stop e =
     (edit-alone e (filled scale 1 (0 ∷ []) .cost))
 
 -- accepted or refused, an audit and an image write leave the tables
-leaves-tables : (c : Call) (t : Tables) → rule (c .n) (c .ask) (t .cost) .effect ≡ stays → after c t ≡ t
-unfolding after
-leaves-tables c t same = rw same (go (accepted (refusal c t)))
+leaves-tables : (c : Call) (t : Tables) → let r : Rule = rule (c .n) (c .ask) (t .cost) in
+    r .leaves ≡ t .cost → r .sound t ≡ right scale mostWays (c .n) t → after c t ≡ t
+unfolding after refusal
+leaves-tables c t same audits = rw same (go (accepted (refusal c t)) refl)
   where
-    go : (b : Bool) → cond b t t ≡ t
-    go true = refl
-    go false = refl
+    r : Rule
+    r = rule (c .n) (c .ask) (t .cost)
+
+    go : (b : Bool) → accepted (refusal c t) ≡ b → cond b (filled scale (c .n) (t .cost)) t ≡ t
+    go true e =
+        let (size, lengths, sound, tests) = chain-true (c .n) (r .fits && sized (c .n) t) (r .sound t) (r .tests) e in
+        right-true scale mostWays (c .n) t (sym audits ∙ sound) .2
+    go false e = refl
 
 pub audit-leaves : (n : ℕ) (t : Tables) → after (record { n = n; ask = audit }) t ≡ t
 unfolding rule
-audit-leaves n t = leaves-tables (record { n = n; ask = audit }) t refl
+audit-leaves n t = leaves-tables (record { n = n; ask = audit }) t refl refl
 
 pub write-leaves : (n : ℕ) (t : Tables) (buffer : List ℕ) → after (record { n = n; ask = imageWrite buffer }) t ≡ t
 unfolding rule
-write-leaves n t buffer = leaves-tables (record { n = n; ask = imageWrite buffer }) t refl
+write-leaves n t buffer = leaves-tables (record { n = n; ask = imageWrite buffer }) t refl refl
 
 -- an edit on right tables is accepted where its stops, its cost and its link fit and it crowds no pair
 pub edit-taken : (n : ℕ) (e : Edit) (t : Tables) → upTo mostStops n ≡ true → sized n t ≡ true → right scale mostWays n t ≡ true →
@@ -74,11 +80,11 @@ module _ (n : ℕ) (t : Tables) (buffer : List ℕ) (ok : refusal (record { n = 
   written-right = audited (record { n = n; ask = imageWrite buffer }) t ok
 
   written-length : answer (record { n = n; ask = imageWrite buffer }) t .length ≡ length (imageOf n (t .cost))
-  unfolding answer reply rule
+  unfolding answer rule
   written-length = rw ok
 
   written-buffer : answer (record { n = n; ask = imageWrite buffer }) t .buffer ≡ imageOf n (t .cost) ++ drop (length (imageOf n (t .cost))) buffer
-  unfolding answer reply rule
+  unfolding answer rule
   written-buffer = rw ok
 
 -- an image is read where no pair is crowded, and gives the tables of its costs

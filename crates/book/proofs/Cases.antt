@@ -7,7 +7,7 @@ use lib.ListN.{replicate, drop}
 use lib.Dec.{eqb}
 use Rattle.routes.specs.Route.{mark, sumTo, joinTo, listTo, allTo, same, setOf, count, visits, uses, time, least, extend, hops, routes, leastTime, quickest, ways, through, portion, share, used, score}
 use Rattle.book.specs.Hall.{Tables, mostStops, largestCost, mostWays, scale, filled, sized, validCosts, uncrowded, right, touched, lowFirst, field, imageOf, validRecord, isImage, costsOf}
-use Rattle.book.specs.Call.{Call, Ask, emptyHall, audit, workOut, edit, number, rule, Answer, reply, refusal, after, answer}
+use Rattle.book.specs.Call.{Call, Ask, emptyHall, audit, workOut, edit, number, rule, Answer, refusal, after, answer}
 use Rattle.book.specs.Book.{run, Step, kept, noLinks, bookRefusal, bookAfter, bookAnswer, bookAnswers}
 use Rattle.book.proofs.Sequence.{stepsOf}
 use Rattle.book.specs.declared.Kind.{Kind}
@@ -86,11 +86,11 @@ pub costs-left :
     (left (change Insert 0 1 65535 ∷ []) ≡ 0 ∷ 65535 ∷ 0 ∷ 0 ∷ []) ×
     (left (change Insert 0 1 9 ∷ change Insert 1 0 9 ∷ change Cheapen 0 1 4 ∷ []) ≡ 0 ∷ 4 ∷ 9 ∷ 0 ∷ []) ×
     (left (change Insert 0 1 9 ∷ change Insert 1 0 9 ∷ change Delete 1 0 9 ∷ []) ≡ 0 ∷ 9 ∷ 0 ∷ 0 ∷ [])
-unfolding sumTo joinTo listTo allTo same setOf count visits uses time least extend hops routes leastTime quickest ways through portion share used score filled sized validCosts uncrowded right touched rule reply refusal after answer run stepsOf
+unfolding sumTo joinTo listTo allTo same setOf count visits uses time least extend hops routes leastTime quickest ways through portion share used score filled sized validCosts uncrowded right touched rule refusal after answer run stepsOf
 costs-left = (refl, refl, refl)
 
 pub cases-hold : map holds cases ≡ replicate 8 true
-unfolding holds sumTo joinTo listTo allTo same setOf count visits uses time least extend hops routes leastTime quickest ways through portion share used score filled sized validCosts uncrowded right touched rule reply refusal after answer run stepsOf
+unfolding holds sumTo joinTo listTo allTo same setOf count visits uses time least extend hops routes leastTime quickest ways through portion share used score filled sized validCosts uncrowded right touched rule refusal after answer run stepsOf
 cases-hold = refl
 
 -- the book of P3's calls, and then of another n, a link that is there already and a cost table that is too short; of an empty hall
@@ -104,5 +104,5 @@ pub book-runs :
     (run bookAfter (calls ++ more) (noLinks 4) .links ≡ 0 ∷ 5 ∷ 5 ∷ 0 ∷ 0 ∷ 0 ∷ 0 ∷ 5 ∷ 0 ∷ 0 ∷ 0 ∷ 0 ∷ 0 ∷ 0 ∷ 0 ∷ 0 ∷ []) ×
     (run bookAfter (calls ++ (record { n = 4; ask = emptyHall } ∷ [])) (noLinks 4) .links ≡ none) ×
     (run bookAfter (calls ++ (record { n = 4; ask = workOut (0 ∷ 7 ∷ drop 2 none) } ∷ [])) (noLinks 4) .links ≡ 0 ∷ 7 ∷ drop 2 none)
-unfolding sumTo joinTo listTo allTo same setOf count visits uses time least extend hops routes leastTime quickest ways through portion share used score filled sized validCosts uncrowded right touched rule reply bookRefusal bookAfter bookAnswer bookAnswers run
+unfolding sumTo joinTo listTo allTo same setOf count visits uses time least extend hops routes leastTime quickest ways through portion share used score filled sized validCosts uncrowded right touched rule bookRefusal bookAfter bookAnswer bookAnswers run
 book-runs = (refl, refl, refl, refl, refl)

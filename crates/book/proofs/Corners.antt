@@ -8,7 +8,8 @@ use lib.ListN.{replicate, take, drop}
 use lib.Dec.{eqb}
 use Rattle.routes.specs.Route.{mark, sumTo, joinTo, listTo, allTo, same, setOf, count, visits, uses, time, least, extend, hops, routes, leastTime, quickest, ways, through, portion, share, used, score}
 use Rattle.book.specs.Hall.{Tables, scale, filled, sized, validCosts, uncrowded, right, touched, lowFirst, field, imageOf, validRecord, isImage, costsOf}
-use Rattle.book.specs.Call.{Call, Ask, emptyHall, audit, workOut, imageWrite, imageRead, number, accepted, rule, Answer, reply, refusal, after, answer, imageCheck}
+use Rattle.book.specs.Call.{Call, Ask, emptyHall, audit, workOut, imageWrite, imageRead, number, accepted, rule, Answer, refusal, after, answer, imageCheck}
+use Rattle.book.specs.Book.{noLinks, run, bookRefusal, bookAfter, bookAnswer, bookAnswers}
 use Rattle.book.proofs.Refused.{bufferOf}
 use Rattle.book.proofs.Cases.{change}
 use Rattle.book.specs.declared.Kind.the-variants.{Insert, Cheapen, Delete}
@@ -102,13 +103,30 @@ corners =
     corner 3 line (imageRead (take 8 lineImage ++ (2 ∷ drop 9 lineImage))) 9 ∷ []
 
 pub corners-hold : map answersSo corners ≡ replicate 48 true
-unfolding answersSo sumTo joinTo listTo allTo same setOf count visits uses time least extend hops routes leastTime quickest ways through portion share used score filled sized validCosts uncrowded right touched lowFirst field imageOf validRecord isImage costsOf rule reply refusal after answer
+unfolding answersSo sumTo joinTo listTo allTo same setOf count visits uses time least extend hops routes leastTime quickest ways through portion share used score filled sized validCosts uncrowded right touched lowFirst field imageOf validRecord isImage costsOf rule refusal after answer
 corners-hold = refl
+
+-- what accepted calls leave on these tables: no links, the costs brought, those of the image, those of the edit; and the tables as they were
+pub leaves-so :
+    let left : Tables → Ask → List ℕ = λ t ask. flat (after (record { n = 3; ask = ask }) t) in
+    (take 9 (left damaged emptyHall) ≡ replicate 9 0) × (left (direct 5) (workOut lineCosts) ≡ flat line) × (left (direct 5) (imageRead lineImage) ≡ flat line) ×
+    (take 9 (left line (change Insert 0 2 5)) ≡ 0 ∷ 1 ∷ 5 ∷ drop 3 lineCosts) × (left line audit ≡ flat line) × (left line (imageWrite (replicate 16 7)) ≡ flat line)
+unfolding sumTo joinTo listTo allTo same setOf count visits uses time least extend hops routes leastTime quickest ways through portion share used score filled sized validCosts uncrowded right touched lowFirst field imageOf validRecord isImage costsOf rule refusal after
+leaves-so = (refl, refl, refl, refl, refl, refl)
 
 -- an image write answers its length and leaves the bytes past it
 pub writes-so : let a : Answer = answer (record { n = 3; ask = imageWrite (replicate 18 7) }) line in (a .length ≡ 16) × (a .buffer ≡ lineImage ++ (7 ∷ 7 ∷ []))
-unfolding sumTo joinTo listTo allTo same setOf count visits uses time least extend hops routes leastTime quickest ways through portion share used score filled sized validCosts uncrowded right touched lowFirst imageOf rule reply refusal answer
+unfolding sumTo joinTo listTo allTo same setOf count visits uses time least extend hops routes leastTime quickest ways through portion share used score filled sized validCosts uncrowded right touched lowFirst imageOf rule refusal answer
 writes-so = (refl, refl)
+
+-- the book of an image that is read, and written again into a buffer that is too short, and into a longer one
+pub book-images :
+    let calls : List Call = map (λ a. record { n = 3; ask = a }) (imageRead lineImage ∷ imageWrite (replicate 15 7) ∷ imageWrite (replicate 18 7) ∷ []) in
+    let said : List Answer = bookAnswers calls (noLinks 3) in
+    (map (λ a. number (a .refusal)) said ≡ 0 ∷ 10 ∷ 0 ∷ []) × (map (λ a. a .length) said ≡ 0 ∷ 0 ∷ 16 ∷ []) ×
+    (map (λ a. a .buffer) said ≡ [] ∷ replicate 15 7 ∷ (lineImage ++ (7 ∷ 7 ∷ [])) ∷ []) × (run bookAfter calls (noLinks 3) .links ≡ lineCosts)
+unfolding sumTo joinTo listTo allTo count visits time least extend hops routes leastTime quickest ways validCosts uncrowded lowFirst field imageOf validRecord isImage costsOf rule bookRefusal bookAfter bookAnswer bookAnswers run
+book-images = (refl, refl, refl, refl)
 
 -- image check answers 0, 1 and 9
 pub checks-so :

@@ -1,18 +1,19 @@
 -- Halls of seven stops with exactly 22 ways of a pair, and with more: refusal 11 by work out, image read, insert and delete, and what
--- is told before it, computed over the definitions. The scores were worked out apart; lister_try writes those of `fewer` too.
+-- is told before it, computed over the book, which demand 3 ties to the tables. lister_try writes the scores of `fewer` too.
 -- Assumes nothing.
 use Prim.Native.Nat.{ℕ, _-_}
 use mathlib.Core.Path.{_≡_, refl}
-use mathlib.Core.Bool.{true, cond, not, _&&_, _||_}
+use mathlib.Core.Bool.{cond, not, _&&_, _||_}
 use mathlib.Core.List.{List, [], _∷_, _++_, map}
 use lib.ListN.{replicate, take, drop}
 use lib.Dec.{eqb}
-use Rattle.routes.specs.Route.{sumTo, joinTo, listTo, allTo, same, setOf, count, visits, uses, time, least, extend, hops, routes, leastTime, quickest, ways, through, portion, share, used, score}
-use Rattle.book.specs.Hall.{mostWays, table, entry, filled, sized, validCosts, uncrowded, right, touched, lowFirst, field, imageOf, validRecord, isImage, costsOf}
-use Rattle.book.specs.Call.{audit, workOut, imageRead, number, rule, reply, refusal, after, answer, imageCheck}
-use Rattle.book.specs.Book.{run}
-use Rattle.book.proofs.Sequence.{stepsOf}
-use Rattle.book.proofs.Cases.{Case, case, change, holds}
+use Rattle.routes.specs.Route.{sumTo, joinTo, listTo, allTo, count, visits, time, least, extend, hops, routes, leastTime, quickest, ways, through, portion, share, score}
+use Rattle.book.specs.Hall.{mostWays, scale, table, entry, filled, validCosts, uncrowded, lowFirst, field, imageOf, validRecord, isImage, costsOf}
+use Rattle.book.specs.Call.{Ask, audit, workOut, imageRead, Call, number, rule, refusal, imageCheck}
+use Rattle.book.specs.Book.{bookRefusal, bookAfter, bookAnswer, noLinks, run, bookAnswers}
+use Rattle.book.proofs.Steps.{refusal-book}
+use Rattle.book.proofs.Cases.{change}
+use Rattle.book.specs.declared.Refusal.the-variants.{TooManyWays}
 use Rattle.book.specs.declared.Kind.the-variants.{Insert, Cheapen, Delete}
 
 -- from each stop to every later one a link as long as the links over all stops between
@@ -34,21 +35,45 @@ denseImage = imageOf 7 dense
 abbrev pub otherKind : List ℕ
 otherKind = take 85 denseImage ++ (2 ∷ drop 86 denseImage)
 
-abbrev pub crowded : List Case
-crowded =
-    -- 32 ways from 0 to 6: refused by work out and image read, behind 5 and 9, and the empty hall stays
-    case 7 (workOut dense ∷ workOut (1 ∷ drop 1 dense) ∷ imageRead denseImage ∷ imageRead otherKind ∷ audit ∷ [])
-    (0 ∷ 11 ∷ 5 ∷ 11 ∷ 9 ∷ 0 ∷ []) (replicate 6 0) (replicate 7 0) ∷
-    -- exactly 22 ways from 0 to 6: accepted; the link 1 to 6 would make them 23, but 7 comes before 11
-    case 7 (workOut fewer ∷ change Insert 1 6 5 ∷ change Cheapen 1 6 5 ∷ audit ∷ [])
-    (0 ∷ 0 ∷ 11 ∷ 7 ∷ 0 ∷ []) (replicate 5 0) (0 ∷ 581981400 ∷ 952333200 ∷ 1068729480 ∷ 790083840 ∷ 881790000 ∷ 0 ∷ []) ∷
-    -- one way from 0 to 6: without its link there would be 31, and with a cost of 6 there would be 32, but 6 and 8 come before 11
-    case 7 (workOut quicker ∷ change Delete 0 6 0 ∷ change Insert 0 6 6 ∷ change Cheapen 0 6 6 ∷ audit ∷ [])
-    (0 ∷ 0 ∷ 11 ∷ 6 ∷ 8 ∷ 0 ∷ []) (replicate 6 0) (0 ∷ 465585120 ∷ 814773960 ∷ 931170240 ∷ 814773960 ∷ 465585120 ∷ 0 ∷ []) ∷ []
+-- what the book says to these calls with n = 7, and the links that it has after them
+abbrev pub calls : List Ask → List Call
+calls asks = map (λ a. record { n = 7; ask = a }) asks
 
-pub crowded-hold : map holds crowded ≡ replicate 3 true
-unfolding holds sumTo joinTo listTo allTo same setOf count visits uses time least extend hops routes leastTime quickest ways through portion share used score filled sized validCosts uncrowded right touched lowFirst field imageOf validRecord isImage costsOf rule reply refusal after answer run stepsOf
-crowded-hold = refl
+abbrev pub told : List Ask → List ℕ
+told asks = map (λ a. number (a .refusal)) (bookAnswers (calls asks) (noLinks 7))
+
+abbrev pub left : List Ask → List ℕ
+left asks = run bookAfter (calls asks) (noLinks 7) .links
+
+-- 32 ways from 0 to 6: refused by work out and image read, behind 5 and 9
+abbrev pub more : List Ask
+more = workOut dense ∷ workOut (1 ∷ drop 1 dense) ∷ imageRead denseImage ∷ imageRead otherKind ∷ audit ∷ []
+
+-- exactly 22 ways from 0 to 6: accepted; the link 1 to 6 would make them 23, but 7 comes before 11
+abbrev pub most : List Ask
+most = workOut fewer ∷ change Insert 1 6 5 ∷ change Cheapen 1 6 5 ∷ audit ∷ []
+
+-- one way from 0 to 6: without its link there would be 31, and with a cost of 6 there would be 32, but 6 and 8 come before 11
+abbrev pub one : List Ask
+one = workOut quicker ∷ change Delete 0 6 0 ∷ change Insert 0 6 6 ∷ change Cheapen 0 6 6 ∷ audit ∷ []
+
+pub crowded-told :
+    (told more ≡ 11 ∷ 5 ∷ 11 ∷ 9 ∷ 0 ∷ []) × (left more ≡ replicate 49 0) × (told most ≡ 0 ∷ 11 ∷ 7 ∷ 0 ∷ []) × (left most ≡ fewer) ×
+    (told one ≡ 0 ∷ 11 ∷ 6 ∷ 8 ∷ 0 ∷ []) × (left one ≡ quicker)
+unfolding sumTo joinTo listTo allTo count visits time least extend hops routes leastTime quickest ways validCosts uncrowded lowFirst field imageOf validRecord isImage costsOf rule bookRefusal bookAfter bookAnswer bookAnswers run
+crowded-told = (refl, refl, refl, refl, refl, refl)
+
+-- the same of tables: the delete on those of the last hall
+pub crowded-delete : refusal (record { n = 7; ask = change Delete 0 6 0 }) (filled scale 7 quicker) ≡ TooManyWays
+unfolding joinTo listTo allTo count visits time least extend hops routes leastTime quickest ways validCosts uncrowded rule bookRefusal
+crowded-delete =
+    refusal-book (record { n = 7; ask = change Delete 0 6 0 }) (record { stops = 7; links = quicker })
+    (record { size = refl; square = refl; valid = refl; few = refl })
+
+-- the scores of the hall with 22 ways, worked out apart
+pub most-scores : filled scale 7 fewer .score ≡ 0 ∷ 581981400 ∷ 952333200 ∷ 1068729480 ∷ 790083840 ∷ 881790000 ∷ 0 ∷ []
+unfolding sumTo joinTo listTo count visits time least extend hops routes leastTime quickest ways through portion share score filled
+most-scores = refl
 
 -- the ways of that pair
 pub crowded-ways : (ways (entry 7 dense) 7 0 6 ≡ 32) × (ways (entry 7 fewer) 7 0 6 ≡ mostWays) × (ways (entry 7 quicker) 7 0 6 ≡ 1)

@@ -3,14 +3,14 @@ use Prim.Native.Nat.{ℕ}
 use mathlib.Core.Path.{_≡_, refl, sym, _∙_, ap}
 use mathlib.Core.Bool.{Bool, true, false, _&&_, and-false}
 use Rattle.routes.proofs.Booleans.{both}
-use Rattle.book.specs.Hall.{Tables, mostStops, mostWays, scale, upTo, sized, right}
-use Rattle.book.specs.Call.{Call, audit, accepted, need, quiet, rightTables, Rule, rule, reply, chain, passes, applied, refusal, after, answer, Done}
+use Rattle.book.specs.Hall.{Tables, mostStops, mostWays, scale, upTo, filled, sized, right}
+use Rattle.book.specs.Call.{Call, audit, accepted, need, Answer, plain, Rule, rule, chain, refusal, after, answer, Done}
 use Rattle.book.specs.Contract.{ofRefusal, doorTests, Inside, Audited}
 use Rattle.book.specs.declared.Refusal.{Refusal}
 use Rattle.book.specs.declared.Refusal.the-variants.{Accepted, BadSize, BadLength, BadTables}
-use Rattle.book.proofs.Answers.{reply-quiet}
+use Rattle.book.proofs.Answers.{done-refusal}
 use Rattle.book.proofs.Passed.{chain-true}
-use Rattle.book.proofs.Refused.{bufferOf, refusedWith, refused-done}
+use Rattle.book.proofs.Refused.{bufferOf, refused-done}
 
 -- the door lets in what it should
 pub door-passed : (n : ℕ) (t : Tables) {r : Refusal} → r ≡ doorTests n t → accepted r ≡ true → Inside n t
@@ -21,8 +21,8 @@ door-passed n t e ok =
 -- the audit is the door and test 3
 module _ (n : ℕ) (t : Tables) {t′ : Tables} {r : Refusal} (d : Done (record { n = n; ask = audit }) t t′ (ofRefusal r)) where
   pub audit-tests : r ≡ chain n (sized n t) (right scale mostWays n t) Accepted
-  unfolding answer reply refusal rule
-  audit-tests = ap (λ a. a .refusal) (d .answered)
+  unfolding refusal rule
+  audit-tests = done-refusal (record { n = n; ask = audit }) t d
 
   pub audit-passed : accepted r ≡ true → Audited n t
   audit-passed ok =
@@ -40,22 +40,22 @@ module _ (c : Call) (t : Tables) (fits : sized (c .n) t ≡ true → rule (c .n)
   at-door = go (upTo mostStops (c .n)) (sized (c .n) t) fits
     where
       go : (size lengths : Bool) → (lengths ≡ true → r .fits ≡ true) → accepted (need size BadSize (need lengths BadLength Accepted)) ≡ false →
-          need size BadSize (need (r .fits && lengths) BadLength (need (passes (r .audits) (c .n) t) BadTables (r .tests))) ≡ need size BadSize (need lengths BadLength Accepted)
+          need size BadSize (need (r .fits && lengths) BadLength (need (r .sound t) BadTables (r .tests))) ≡ need size BadSize (need lengths BadLength Accepted)
       go false lengths f shut = refl
       go true false f shut = rw (and-false (r .fits))
       go true true f shut = absurd (both refl shut)
 
-  pub door-refused : (x : Refusal) → x ≡ doorTests (c .n) t → accepted x ≡ false → Done c t t (refusedWith x (bufferOf c t))
+  pub door-refused : (x : Refusal) → x ≡ doorTests (c .n) t → accepted x ≡ false → Done c t t (plain x (bufferOf c t))
   door-refused x e shut = refused-done c t x (at-door (ap accepted (sym e) ∙ shut) ∙ sym e) shut
 
   -- behind the door come 3 and its own tests
-  pub behind-door : Inside (c .n) t → refusal c t ≡ need (passes (r .audits) (c .n) t) BadTables (r .tests)
+  pub behind-door : Inside (c .n) t → refusal c t ≡ need (r .sound t) BadTables (r .tests)
   unfolding refusal
   behind-door i = rw (i .size, i .lengths, fits (i .lengths))
 
   -- one that audits is refused as the audit refuses
-  module _ (audits : r .audits ≡ rightTables) where
-    pub audit-refused : {t′ : Tables} (x : Refusal) → Done (record { n = c .n; ask = audit }) t t′ (ofRefusal x) → accepted x ≡ false → Done c t t (refusedWith x (bufferOf c t))
+  module _ (audits : r .sound t ≡ right scale mostWays (c .n) t) where
+    pub audit-refused : {t′ : Tables} (x : Refusal) → Done (record { n = c .n; ask = audit }) t t′ (ofRefusal x) → accepted x ≡ false → Done c t t (plain x (bufferOf c t))
     unfolding refusal
     audit-refused x d shut = refused-done c t x (rw audits (go (upTo mostStops (c .n)) (sized (c .n) t) (right scale mostWays (c .n) t) fits (ap accepted (sym told) ∙ shut)) ∙ sym told) shut
       where
@@ -73,8 +73,8 @@ module _ (c : Call) (t : Tables) (fits : sized (c .n) t ≡ true → rule (c .n)
     pub behind-audit : Audited (c .n) t → refusal c t ≡ r .tests
     behind-audit i = behind-door (i .inside) ∙ rw (audits, i .sound)
 
--- a quiet call that is accepted leaves what its effect says
-pub quiet-done : (c : Call) (t t′ : Tables) → rule (c .n) (c .ask) (t .cost) .says ≡ quiet → refusal c t ≡ Accepted →
-    t′ ≡ applied (c .n) (rule (c .n) (c .ask) (t .cost) .effect) t → Done c t t′ (ofRefusal Accepted)
+-- an accepted call leaves the tables of the costs that it leaves, and says what it says
+pub accepted-done : (c : Call) (t t′ : Tables) (a : Answer) → refusal c t ≡ Accepted →
+    t′ ≡ filled scale (c .n) (rule (c .n) (c .ask) (t .cost) .leaves) → a ≡ rule (c .n) (c .ask) (t .cost) .says → Done c t t′ a
 unfolding after answer
-quiet-done c t t′ says ok left = record { left = left ∙ rw ok; answered = rw (ok, says) (sym (reply-quiet (c .n) Accepted)) }
+accepted-done c t t′ a ok left said = record { left = left ∙ rw ok; answered = said ∙ rw ok }

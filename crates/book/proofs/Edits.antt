@@ -14,7 +14,7 @@ use Rattle.routes.proofs.Bits.{has-setOf}
 use Rattle.routes.proofs.Rows.{getD-listTo}
 use Rattle.routes.proofs.Touched.{sameEntries, touched-row}
 use Rattle.book.specs.Hall.{mostStops, largestCost, scale, table, entry, filled, touched}
-use Rattle.book.specs.Call.{Call, edit, accepted, costSet, withEdit, rule, reply, refusal, after, answer}
+use Rattle.book.specs.Call.{Call, edit, accepted, costSet, withEdit, rule, refusal, after, answer}
 use Rattle.book.specs.Book.{Book, EditFacts, changed}
 use Rattle.book.specs.declared.Edit.{Edit}
 use Rattle.book.specs.declared.Refusal.the-variants.{Accepted}
@@ -114,8 +114,8 @@ module _ (n : ℕ) (e : Edit) (cost : List ℕ) (h : Held n cost) (p : Permitted
   over-touched f x hx = sumTo-cong n (λ s hs. rw (member s hs, entry-table n f s x hs hx))
 
   -- the promises of demand 3 for this edit
-  edited-rule : EditFacts n e (filled scale n cost) (filled scale n left) (reply n Accepted (rule n (edit e) cost .says))
-  unfolding filled reply rule score
+  edited-rule : EditFacts n e (filled scale n cost) (filled scale n left) (rule n (edit e) cost .says)
+  unfolding filled rule score
   edited-rule =
       let shares : ℕ → ℕ → ℕ = λ s. share W n s scale in
       let shares′ : ℕ → ℕ → ℕ = λ s. share W′ n s scale in

@@ -9,7 +9,7 @@ use lib.Dec.{eqb, ltb, leb}
 use borrow.Author.Tests.{eqb-true, eqb-false, leb-true, ltb-true, le-ltb, not-true}
 use Rattle.routes.proofs.Booleans.{both}
 use Rattle.book.specs.Hall.{Tables, mostStops, largestCost, mostWays, upTo, entry, sized, validPair, uncrowded}
-use Rattle.book.specs.Call.{Call, edit, accepted, need, costTests, waysTest, costSet, withEdit, Rule, rule, chain, passes, refusal}
+use Rattle.book.specs.Call.{Call, edit, accepted, need, costTests, waysTest, costSet, withEdit, Rule, rule, chain, refusal}
 use Rattle.book.specs.declared.Edit.{Edit}
 use Rattle.book.specs.declared.Kind.{Kind}
 use Rattle.book.specs.declared.Kind.the-variants.{Insert, Cheapen, Delete}
@@ -35,9 +35,9 @@ module _ (c : Call) (t : Tables) (e : refusal c t ≡ Accepted) where
   abbrev r : Rule
   r = rule (c .n) (c .ask) (t .cost)
 
-  all : (upTo mostStops (c .n) ≡ true) × ((r .fits && sized (c .n) t) ≡ true) × (passes (r .audits) (c .n) t ≡ true) × (accepted (r .tests) ≡ true)
+  all : (upTo mostStops (c .n) ≡ true) × ((r .fits && sized (c .n) t) ≡ true) × (r .sound t ≡ true) × (accepted (r .tests) ≡ true)
   unfolding refusal
-  all = chain-true (c .n) (r .fits && sized (c .n) t) (passes (r .audits) (c .n) t) (r .tests) (ap accepted e)
+  all = chain-true (c .n) (r .fits && sized (c .n) t) (r .sound t) (r .tests) (ap accepted e)
 
   pub passed : (upTo mostStops (c .n) ≡ true) × (sized (c .n) t ≡ true) × (accepted (r .tests) ≡ true)
   passed = let (size, lengths, sound, tests) = all in (size, and-eq-true-iff (r .fits) (sized (c .n) t) .0 lengths .1, tests)
@@ -45,7 +45,7 @@ module _ (c : Call) (t : Tables) (e : refusal c t ≡ Accepted) where
   pub fitted : r .fits ≡ true
   fitted = let (size, lengths, sound, tests) = all in and-eq-true-iff (r .fits) (sized (c .n) t) .0 lengths .0
 
-  pub audited : passes (r .audits) (c .n) t ≡ true
+  pub audited : r .sound t ≡ true
   audited = let (size, lengths, sound, tests) = all in sound
 
 -- an accepted edit

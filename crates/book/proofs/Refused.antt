@@ -4,15 +4,15 @@ use mathlib.Core.Path.{_≡_, refl, sym, _∙_, ap}
 use mathlib.Core.Bool.{Bool, true, false, cond}
 use mathlib.Core.List.{List}
 use Rattle.book.specs.Hall.{Tables}
-use Rattle.book.specs.Call.{Ask, emptyHall, audit, workOut, edit, imageWrite, imageRead, Call, accepted, Says, rule, Answer, reply, refusal, after, answer, Done}
+use Rattle.book.specs.Call.{Ask, emptyHall, audit, workOut, edit, imageWrite, imageRead, Call, accepted, Answer, plain, rule, refusal, after, answer, Done}
 use Rattle.book.specs.Book.{Step, withCost, lent, kept}
-use Rattle.book.proofs.Answers.{untouched}
+use Rattle.book.proofs.Answers.{done-refusal}
 use Rattle.book.specs.declared.Edit.{Edit}
 use Rattle.book.specs.declared.Refusal.{Refusal}
 
 -- the buffer that a call is lent
 abbrev pub bufferOf : Call → Tables → List ℕ
-bufferOf c t = rule (c .n) (c .ask) (t .cost) .says .buffer
+bufferOf c t = rule (c .n) (c .ask) (t .cost) .lentBuffer
 
 -- tables and buffer as found, an empty set, no rows, length 0
 pub record Unchanged (c : Call) (t t′ : Tables) (a : Answer) : Type 0 where
@@ -22,28 +22,15 @@ pub record Unchanged (c : Call) (t t′ : Tables) (a : Answer) : Type 0 where
   pub length : a .length ≡ 0
   pub buffer : a .buffer ≡ bufferOf c t
 
--- its refusal alone, and the buffer as found
-abbrev pub refusedWith : Refusal → List ℕ → Answer
-refusedWith r buffer = record { refusal = r; touched = 0; rows = 0; length = 0; buffer = buffer }
-
-reply-refused : (n : ℕ) (r : Refusal) (x : Says) → accepted r ≡ false → reply n r x ≡ refusedWith r (x .buffer)
-unfolding reply
-reply-refused n r x e = rw e (untouched n r (λ s. false) (λ s. refl) 0 (x .buffer))
-
-refused-answer : (c : Call) (t : Tables) → accepted (refusal c t) ≡ false → answer c t ≡ refusedWith (refusal c t) (bufferOf c t)
+refused-answer : (c : Call) (t : Tables) → accepted (refusal c t) ≡ false → answer c t ≡ plain (refusal c t) (bufferOf c t)
 unfolding answer
-refused-answer c t e = reply-refused (c .n) (refusal c t) (rule (c .n) (c .ask) (t .cost) .says) e
-
--- the refusal of an answer is the call's
-answered : (c : Call) (t : Tables) → answer c t .refusal ≡ refusal c t
-unfolding answer reply
-answered c t = refl
+refused-answer c t e = rw e
 
 -- every call, on any tables
 pub refused-unchanged : (c : Call) (t t′ : Tables) (a : Answer) → Done c t t′ a → accepted (a .refusal) ≡ false → Unchanged c t t′ a
 unfolding after
 refused-unchanged c t t′ a d closed =
-    let same : accepted (refusal c t) ≡ false = ap accepted (sym (ap (λ a. a .refusal) (d .answered) ∙ answered c t)) ∙ closed in
+    let same : accepted (refusal c t) ≡ false = ap accepted (sym (done-refusal c t d)) ∙ closed in
     let said = d .answered ∙ refused-answer c t same in
     record {
       tables = d .left ∙ rw same;
@@ -54,9 +41,9 @@ refused-unchanged c t t′ a d closed =
     }
 
 -- and the other way round: this is all that a refused call has to do
-pub refused-done : (c : Call) (t : Tables) (r : Refusal) → refusal c t ≡ r → accepted r ≡ false → Done c t t (refusedWith r (bufferOf c t))
+pub refused-done : (c : Call) (t : Tables) (r : Refusal) → refusal c t ≡ r → accepted r ≡ false → Done c t t (plain r (bufferOf c t))
 unfolding after
-refused-done c t r e f = record { left = rw (e, f); answered = sym (refused-answer c t (rw e f) ∙ ap (λ r. refusedWith r (bufferOf c t)) e) }
+refused-done c t r e f = record { left = rw (e, f); answered = sym (refused-answer c t (rw e f) ∙ ap (λ r. plain r (bufferOf c t)) e) }
 
 -- in a sequence the five tables after it are those before it
 pub refused-kept : (s : Step) (t : Tables) → Done (s .call) (lent (s .call) t) (s .left) (s .answer) → accepted (s .answer .refusal) ≡ false → kept s t ≡ t
@@ -74,10 +61,10 @@ kept-left s t d same = go (accepted (s .answer .refusal)) refl
         let found : s .left ≡ t = refused-unchanged (s .call) (lent (s .call) t) (s .left) (s .answer) d e .tables ∙ same in
         rw found
 
--- every call but work out is lent the five themselves, and work out its own cost table beside four of them
+-- every call but work out is lent the five themselves, and work out its own cost table beside four of them; an image write its buffer
 pub lent-all : (n : ℕ) (e : Edit) (cost buffer image : List ℕ) (t : Tables) →
     let of : Ask → Tables = λ ask. lent (record { n = n; ask = ask }) t in
     (of emptyHall ≡ t) × (of audit ≡ t) × (of (edit e) ≡ t) × (of (imageWrite buffer) ≡ t) × (of (imageRead image) ≡ t) ×
-    (of (workOut cost) ≡ withCost cost t)
+    (of (workOut cost) ≡ withCost cost t) × (bufferOf (record { n = n; ask = imageWrite buffer }) t ≡ buffer)
 unfolding rule
-lent-all n e cost buffer image t = (refl, refl, refl, refl, refl, refl)
+lent-all n e cost buffer image t = (refl, refl, refl, refl, refl, refl, refl)

@@ -1,17 +1,21 @@
 -- Demand 3, and what follows from it. Assumes nothing.
-use Prim.Native.Nat.{ℕ, _*_}
+use Prim.Native.Nat.{ℕ, _+_, _*_, _<_}
 use mathlib.Core.Path.{_≡_, refl, sym, _∙_, ap, ap₂, subst, subst⁻¹}
 use mathlib.Core.Logic.{_≢_}
-use mathlib.Core.Bool.{true}
+use mathlib.Core.Bool.{Bool, true, cond, _&&_}
 use mathlib.Core.List.{List, [], _∷_, _++_, map}
-use lib.ListN.{replicate}
-use borrow.Author.Tests.{eq-eqb}
-use Rattle.book.specs.Hall.{Tables, mostStops, scale, upTo, filled, sized}
-use Rattle.book.specs.Call.{Call, emptyHall, workOut, edit, rule, reply, refusal, after, answer, Done}
-use Rattle.book.specs.Book.{Book, bookAfter, bookAnswer, noLinks, run, bookAnswers, Step, callsOf, lent, kept, withCost, Sequence, Started, EditFacts, Demand3}
+use lib.Dec.{ltb}
+use lib.ListN.{getD, replicate}
+use borrow.Author.Tests.{eq-eqb, lt-ltb}
+use Rattle.routes.specs.Route.{sumTo, has}
+use Rattle.routes.proofs.Sums.{sumTo-cong}
+use Rattle.book.specs.Hall.{Tables, mostStops, scale, upTo, entry, filled, sized, touched}
+use Rattle.book.specs.Call.{Call, emptyHall, workOut, edit, rule, refusal, after, answer, Done}
+use Rattle.book.specs.Book.{Book, bookAfter, noLinks, run, bookAnswers, Step, callsOf, lent, kept, withCost, Sequence, Started, changed, EditFacts, Demand3}
 use Rattle.book.specs.declared.Edit.{Edit}
 use Rattle.book.specs.declared.Refusal.the-variants.{Accepted, BadTables}
 use Rattle.book.proofs.Filled.{sized-filled}
+use Rattle.book.proofs.Answers.{book-refusal, done-refusal}
 use Rattle.book.proofs.Passed.{passed}
 use Rattle.book.proofs.Steps.{Held, held-none, held-worked, held-after, tablesOf, answer-made, kept-made, never-bad}
 use Rattle.book.proofs.Edits.{edited-book}
@@ -46,24 +50,23 @@ front (m ∷ made) s rest t (d, more) = let (q, e) = front made s rest (kept m t
 edited-made : (s : Step) (b : Book) (e : Edit) → Held (b .stops) (b .links) → s .call .ask ≡ edit e →
     Done (s .call) (lent (s .call) (tablesOf b)) (s .left) (s .answer) → s .answer .refusal ≡ Accepted →
     EditFacts (s .call .n) e (tablesOf b) (s .left) (s .answer)
-unfolding answer reply rule filled
+unfolding rule filled
 edited-made s b e h asked d ok =
     let same : Done (s .call) (tablesOf b) (s .left) (s .answer) =
-    subst (λ ask. Done (s .call) (withCost (rule (s .call .n) ask (b .links) .cost) (tablesOf b)) (s .left) (s .answer)) asked d in
-    rw (same .left, same .answered) (edited-book (s .call) b e h asked (sym (ap (λ a. a .refusal) (same .answered)) ∙ ok))
+    subst (λ ask. Done (s .call) (withCost (rule (s .call .n) ask (b .links) .lentCost) (tablesOf b)) (s .left) (s .answer)) asked d in
+    rw (same .left, same .answered) (edited-book (s .call) b e h asked (sym (done-refusal (s .call) (tablesOf b) same) ∙ ok))
 
 module _ (N : ℕ) (start : Tables) (from : Started N start) where
   -- the tables of an empty hall, of which the book says that there are no links
   held-first : Held N (replicate (N * N) 0)
-  unfolding answer reply
   held-first =
-      let ok = sym (ap (λ a. a .refusal) (from .done .answered)) ∙ from .taken in
+      let ok = sym (done-refusal (record { n = N; ask = emptyHall }) (from .found) (from .done)) ∙ from .taken in
       held-none N (passed (record { n = N; ask = emptyHall }) (from .found) ok .0)
 
   start-book : start ≡ tablesOf (noLinks N)
-  unfolding answer reply after rule
+  unfolding after rule
   start-book =
-      let ok = sym (ap (λ a. a .refusal) (from .done .answered)) ∙ from .taken in
+      let ok = sym (done-refusal (record { n = N; ask = emptyHall }) (from .found) (from .done)) ∙ from .taken in
       from .done .left ∙ rw ok
 
   -- after a sequence the five are the tables of a book, whose links are the sequence's
@@ -90,7 +93,7 @@ demand3 N start steps from made = (
 -- every N from 1 to 64 has such tables to start from, and every list of calls such a sequence
 pub sequence-starts : (N : ℕ) (found : Tables) → upTo mostStops N ≡ true → sized N found ≡ true →
     Started N (after (record { n = N; ask = emptyHall }) found)
-unfolding answer reply refusal rule
+unfolding answer refusal rule
 sequence-starts N found size lengths =
     record { found = found; said = answer (record { n = N; ask = emptyHall }) found; done = record { left = refl; answered = refl }; taken = rw (size, lengths) }
 
@@ -113,16 +116,44 @@ module _ (N : ℕ) (start : Tables) (from : Started N start) where
   pub same-links : (start′ : Tables) → Started N start′ → (steps steps′ : List Step) → Sequence start steps → Sequence start′ steps′ →
       run bookAfter (callsOf steps) (noLinks N) .links ≡ run bookAfter (callsOf steps′) (noLinks N) .links →
       run kept steps start ≡ run kept steps′ start′
+  unfolding Demand3
   same-links start′ from′ steps steps′ made made′ same =
-      at-end N start from steps made .0 ∙ ap (filled scale N) same ∙ sym (at-end N start′ from′ steps′ made′ .0)
+      demand3 N start steps from made .0 ∙ ap (filled scale N) same ∙ sym (demand3 N start′ steps′ from′ made′ .0)
+
+  -- sequences of the same calls answer the same, whatever their first tables held before
+  pub same-answers : (start′ : Tables) → Started N start′ → (steps steps′ : List Step) → Sequence start steps → Sequence start′ steps′ →
+      callsOf steps ≡ callsOf steps′ → map (λ s. s .answer) steps ≡ map (λ s. s .answer) steps′
+  unfolding Demand3
+  same-answers start′ from′ steps steps′ made made′ same =
+      demand3 N start steps from made .1 ∙ ap (λ calls. bookAnswers calls (noLinks N)) same ∙ sym (demand3 N start′ steps′ from′ made′ .1)
+
+  -- an accepted edit of a sequence in the words of its routes: it changes exactly the rows of the sources that it touches, answers how
+  -- many they are, and moves each score by what their shares move
+  pub edit-exact : (before rest : List Step) (s : Step) (e : Edit) → Sequence start (before ++ s ∷ rest) → s .call .ask ≡ edit e → s .answer .refusal ≡ Accepted →
+      let n : ℕ = s .call .n in
+      let t : Tables = run kept before start in
+      let t′ : Tables = s .left in
+      let touches : ℕ → Bool = touched n (t .cost) (t′ .cost) (e .u) (e .v) in
+      ((x : ℕ) → x < n → changed n t t′ x ≡ touches x) × (s .answer .rows ≡ sumTo 64 (λ x. cond (ltb x n && touches x) 1 0)) ×
+      ((x : ℕ) → x < n →
+      getD (t′ .score) x 0 + sumTo n (λ s. cond (touches s) (entry n (t .share) s x) 0) ≡ getD (t .score) x 0 + sumTo n (λ s. cond (touches s) (entry n (t′ .share) s x) 0))
+  unfolding Demand3
+  edit-exact before rest s e made asked ok =
+      let f = demand3 N start (before ++ s ∷ rest) from made .2 before rest s e refl asked ok in
+      let t : Tables = run kept before start in
+      let n : ℕ = s .call .n in
+      let touches : ℕ → Bool = touched n (t .cost) (s .left .cost) (e .u) (e .v) in
+      let member : (x : ℕ) → x < n → has (s .answer .touched) x ≡ touches x = λ x l. f .names x ∙ rw (lt-ltb x n l) in
+      let over : (u : Tables) (x : ℕ) → sumTo n (λ s′. cond (has (s .answer .touched) s′) (entry n (u .share) s′ x) 0) ≡ sumTo n (λ s′. cond (touches s′) (entry n (u .share) s′ x) 0) =
+      λ u x. sumTo-cong n (λ i l. rw (member i l)) in
+      (λ x l. f .changes x l ∙ member x l, f .counts ∙ sumTo-cong 64 (λ i l. rw (f .names i)), λ x l. rw (← over t x, ← over (s .left) x) (f .moves x l))
 
   -- no call of a sequence answers 3
   pub never-three : (made : List Step) (s : Step) (rest : List Step) → Sequence start (made ++ s ∷ rest) → s .answer .refusal ≢ BadTables
-  unfolding bookAnswer reply
   never-three made s rest all =
       let (before, d) = front made s rest start all in
       of-books N start from (λ t. Done (s .call) (lent (s .call) t) (s .left) (s .answer) → s .answer .refusal ≢ BadTables) made before
-      (λ links h d bad. let b : Book = record { stops = N; links = links } in never-bad (s .call) b (sym (ap (λ a. a .refusal) (answer-made s b h d)) ∙ bad)) d
+      (λ links h d bad. let b : Book = record { stops = N; links = links } in never-bad (s .call) b (sym (ap (λ a. a .refusal) (answer-made s b h d) ∙ book-refusal (s .call) b) ∙ bad)) d
 
   -- a work out on the cost table that a sequence leaves is accepted and changes nothing
   pub worked-out : (steps : List Step) → Sequence start steps →

@@ -1,6 +1,6 @@
 -- One call on the tables of a book: it is refused, leaves and answers what the book says. Assumes nothing.
 use Prim.Native.Nat.{ℕ, _*_, _<_}
-use mathlib.Core.Path.{_≡_, refl, sym, _∙_, ap, subst}
+use mathlib.Core.Path.{_≡_, refl, _∙_, ap, subst}
 use mathlib.Core.Logic.{_≢_}
 use mathlib.Core.Bool.{Bool, true, false, cond, _&&_, and-eq-true-iff}
 use mathlib.Core.List.{List, [], _∷_}
@@ -9,8 +9,8 @@ use lib.ListN.{length, replicate, length-set, length-replicate}
 use borrow.Author.Tests.{eqb-true, eq-eqb}
 use Rattle.routes.proofs.Booleans.{both}
 use Rattle.book.specs.Hall.{Tables, mostStops, largestCost, mostWays, scale, upTo, entry, filled, sized, validPair, validCosts, uncrowded, right, imageOf, isImage, costsOf}
-use Rattle.book.specs.Call.{Ask, emptyHall, audit, workOut, edit, imageWrite, imageRead, Call, number, accepted, need, costTests, waysTest, costSet, withEdit, Audit, anyTables, rightTables, Effect, stays, fills, Rule, rule, Answer, reply, passes, applied, refusal, after, answer, Done}
-use Rattle.book.specs.Book.{Book, entered, bookRefusal, bookAfter, bookAnswer, Step, withCost, lent, kept, Sequence}
+use Rattle.book.specs.Call.{Ask, emptyHall, audit, workOut, edit, imageWrite, imageRead, Call, number, accepted, need, costTests, waysTest, costSet, withEdit, Rule, rule, Answer, refusal, after, answer, Done}
+use Rattle.book.specs.Book.{Book, bookRefusal, bookAfter, bookAnswer, Step, withCost, lent, kept, Sequence}
 use Rattle.book.specs.declared.Edit.{Edit}
 use Rattle.book.specs.declared.Kind.{Kind}
 use Rattle.book.specs.declared.Kind.the-variants.{Insert, Cheapen, Delete}
@@ -20,6 +20,7 @@ use Rattle.book.proofs.Tables.{entry-set, valid-set}
 use Rattle.book.proofs.Images.{length-read, read-valid}
 use Rattle.book.proofs.NoLinks.{valid-none, uncrowded-none}
 use Rattle.book.proofs.Filled.{sized-beside, sized-filled, sized-cost, right-filled, right-true}
+use Rattle.book.proofs.Answers.{book-refusal}
 use Rattle.book.proofs.Passed.{need-true, chain-true, passed, fitted, audited, Permitted, permitted}
 
 -- what holds of a book's N and links at every point of a sequence
@@ -58,54 +59,34 @@ module _ (n : ℕ) (e : Edit) (cost : List ℕ) (h : Held n cost) (p : Permitted
     few = p .few;
   }
 
--- a call that passes its tests leaves costs of which it holds, if it holds of those that it audits
-pub rule-held : (n : ℕ) (ask : Ask) (cost : List ℕ) → upTo mostStops n ≡ true → rule n ask cost .fits ≡ true → (rule n ask cost .audits ≡ rightTables → Held n cost) →
-    accepted (rule n ask cost .tests) ≡ true → Held n (entered (rule n ask cost .effect) cost)
+-- of the costs of tables that are right
+held-right : (n : ℕ) (t : Tables) → upTo mostStops n ≡ true → sized n t ≡ true → right scale mostWays n t ≡ true → Held n (t .cost)
+held-right n t size lengths sound =
+    let (valid, few, same) = right-true scale mostWays n t sound in
+    record { size = size; square = sized-cost n t lengths; valid = valid; few = few }
+
+-- and of those that a call leaves which passes its tests
+rule-held : (n : ℕ) (ask : Ask) (t : Tables) → let r : Rule = rule n ask (t .cost) in
+    upTo mostStops n ≡ true → sized n t ≡ true → r .fits ≡ true → r .sound t ≡ true → accepted (r .tests) ≡ true → Held n (r .leaves)
 unfolding rule
-rule-held n emptyHall cost size fits h e = held-none n size
-rule-held n audit cost size fits h e = h refl
-rule-held n (workOut c) cost size fits h e = worked-held n c cost size fits e
-rule-held n (edit x) cost size fits h e = held-edited n x cost (h refl) (permitted n x cost e)
-rule-held n (imageWrite buffer) cost size fits h e = h refl
-rule-held n (imageRead image) cost size fits h e =
+rule-held n emptyHall t size lengths fits sound e = held-none n size
+rule-held n audit t size lengths fits sound e = held-right n t size lengths sound
+rule-held n (workOut c) t size lengths fits sound e = worked-held n c (t .cost) size fits e
+rule-held n (edit x) t size lengths fits sound e = held-edited n x (t .cost) (held-right n t size lengths sound) (permitted n x (t .cost) e)
+rule-held n (imageWrite buffer) t size lengths fits sound e = held-right n t size lengths sound
+rule-held n (imageRead image) t size lengths fits sound e =
     let (is, e₁) = need-true (isImage n image) BadImage _ refl e in
     let (few, e₂) = need-true (uncrowded mostWays n (costsOf n image)) TooManyWays Accepted refl e₁ in
     record { size = size; square = length-read n image; valid = read-valid n image is; few = few }
 
--- an effect on the tables of a cost table, and on the cost table
-pub applied-filled : (n : ℕ) (effect : Effect) (cost : List ℕ) → applied n effect (filled scale n cost) ≡ filled scale n (entered effect cost)
-applied-filled n stays cost = refl
-applied-filled n (fills c) cost = refl
-
--- a call either audits or fills the tables, so what an accepted call leaves are the tables of the costs that it leaves
-rule-fills : (n : ℕ) (ask : Ask) (t : Tables) → (rule n ask (t .cost) .audits ≡ rightTables → filled scale n (t .cost) ≡ t) →
-    applied n (rule n ask (t .cost) .effect) t ≡ filled scale n (entered (rule n ask (t .cost) .effect) (t .cost))
-unfolding rule
-rule-fills n emptyHall t same = refl
-rule-fills n audit t same = sym (same refl)
-rule-fills n (workOut c) t same = refl
-rule-fills n (edit e) t same = refl
-rule-fills n (imageWrite buffer) t same = sym (same refl)
-rule-fills n (imageRead image) t same = refl
-
+-- so it holds of the costs that any accepted call leaves, on any tables, and their tables are left
 module _ (c : Call) (t : Tables) (e : refusal c t ≡ Accepted) where
-  abbrev r : Rule
-  r = rule (c .n) (c .ask) (t .cost)
+  pub accepted-held : Held (c .n) (rule (c .n) (c .ask) (t .cost) .leaves)
+  accepted-held = let (size, lengths, tests) = passed c t e in rule-held (c .n) (c .ask) t size lengths (fitted c t e) (audited c t e) tests
 
-  sound : r .audits ≡ rightTables → right scale mostWays (c .n) t ≡ true
-  sound audits = rw audits at (audited c t e)
-
-  -- so it holds of the costs that any accepted call leaves, on any tables, and their tables are left
-  pub accepted-held : Held (c .n) (entered (r .effect) (t .cost))
-  accepted-held =
-      let (size, lengths, tests) = passed c t e in
-      rule-held (c .n) (c .ask) (t .cost) size (fitted c t e) (λ audits.
-      let (valid, few, same) = right-true scale mostWays (c .n) t (sound audits) in
-      record { size = size; square = sized-cost (c .n) t lengths; valid = valid; few = few }) tests
-
-  pub accepted-filled : after c t ≡ filled scale (c .n) (entered (r .effect) (t .cost))
+  pub accepted-filled : after c t ≡ filled scale (c .n) (rule (c .n) (c .ask) (t .cost) .leaves)
   unfolding after
-  accepted-filled = rw e (rule-fills (c .n) (c .ask) t (λ audits. right-true scale mostWays (c .n) t (sound audits) .2))
+  accepted-filled = rw e
 
 -- the tables of a book
 abbrev pub tablesOf : Book → Tables
@@ -134,10 +115,15 @@ rule-lent : (n : ℕ) (ask : Ask) (t : Tables) → rule n ask (lent (record { n 
 unfolding rule
 rule-lent n ask t = by-lent n (λ ask t′. rule n ask (t′ .cost) ≡ rule n ask (t .cost)) t (λ ask. refl) (λ cost. refl) ask
 
--- tables that are right pass whichever audit
-right-passes : (a : Audit) (n : ℕ) (t : Tables) → right scale mostWays n t ≡ true → passes a n t ≡ true
-right-passes anyTables n t e = refl
-right-passes rightTables n t e = e
+-- tables that are right pass whatever a call audits
+right-passes : (n : ℕ) (ask : Ask) (cost : List ℕ) (t : Tables) → right scale mostWays n t ≡ true → rule n ask cost .sound t ≡ true
+unfolding rule
+right-passes n emptyHall cost t e = refl
+right-passes n audit cost t e = e
+right-passes n (workOut c) cost t e = refl
+right-passes n (edit x) cost t e = e
+right-passes n (imageWrite buffer) cost t e = e
+right-passes n (imageRead image) cost t e = refl
 
 module _ (c : Call) (b : Book) where
   abbrev ruled : Rule
@@ -152,33 +138,35 @@ module _ (c : Call) (b : Book) where
       (eqb-true (c .n) (b .stops) same, fits, tests)
 
   module _ (h : Held (b .stops) (b .links)) where
-    -- the book's tables have the lengths for N alone and pass the audit, so they refuse what the book refuses
+    -- the book's tables have the lengths for N alone, and pass whatever a call audits
+    lengths-book : sized (c .n) (tablesOf b) ≡ eqb (c .n) (b .stops)
+    lengths-book = sized-filled scale (c .n) (b .stops) (b .links) (h .square)
+
+    sound-book : c .n ≡ b .stops → ruled .sound (tablesOf b) ≡ true
+    sound-book same =
+        right-passes (c .n) (c .ask) (b .links) (tablesOf b) (rw same (right-filled scale mostWays (b .stops) (b .links) (h .valid) (h .few)))
+
+    -- so they refuse what the book refuses
     pub refusal-book : refusal c (tablesOf b) ≡ bookRefusal c b
     unfolding refusal bookRefusal filled
-    refusal-book =
-        rw (sized-filled scale (c .n) (b .stops) (b .links) (h .square)) (ap (need (upTo mostStops (c .n)) BadSize) (go (ruled .fits) (eqb (c .n) (b .stops)) refl))
+    refusal-book = rw lengths-book (ap (need (upTo mostStops (c .n)) BadSize) (go (ruled .fits) (eqb (c .n) (b .stops)) refl))
       where
         go : (f x : Bool) → eqb (c .n) (b .stops) ≡ x →
-            need (f && x) BadLength (need (passes (ruled .audits) (c .n) (tablesOf b)) BadTables (ruled .tests)) ≡ need (f && x) BadLength (ruled .tests)
-        go true true e =
-            let sound : right scale mostWays (c .n) (tablesOf b) ≡ true =
-            rw (eqb-true (c .n) (b .stops) e) (right-filled scale mostWays (b .stops) (b .links) (h .valid) (h .few)) in
-            rw (right-passes (ruled .audits) (c .n) (tablesOf b) sound)
+            need (f && x) BadLength (need (ruled .sound (tablesOf b)) BadTables (ruled .tests)) ≡ need (f && x) BadLength (ruled .tests)
+        go true true e = rw (sound-book (eqb-true (c .n) (b .stops) e))
         go true false e = refl
         go false x e = refl
 
     -- the book after the call
     pub held-after : Held (bookAfter c b .stops) (bookAfter c b .links)
-    unfolding bookAfter
+    unfolding bookAfter filled
     held-after = go (accepted (bookRefusal c b)) refl
       where
-        left : List ℕ
-        left = entered (ruled .effect) (b .links)
-
-        go : (x : Bool) → accepted (bookRefusal c b) ≡ x → Held (b .stops) (cond x left (b .links))
+        go : (x : Bool) → accepted (bookRefusal c b) ≡ x → Held (b .stops) (cond x (ruled .leaves) (b .links))
         go true e =
             let (same, fits, tests) = accepted-book e in
-            subst (λ n. Held n left) same (rule-held (c .n) (c .ask) (b .links) (rw same (h .size)) fits (λ audits. rw same h) tests)
+            let lengths : sized (c .n) (tablesOf b) ≡ true = lengths-book ∙ eq-eqb (c .n) (b .stops) same in
+            subst (λ n. Held n (ruled .leaves)) same (rule-held (c .n) (c .ask) (tablesOf b) (rw same (h .size)) lengths fits (sound-book same) tests)
         go false e = h
 
 -- a call on what it is lent refuses what the book refuses
@@ -194,14 +182,6 @@ refusal-lent n ask b h =
     and-twice true y = refl
     and-twice false y = refl
 
--- its effect on what it is lent of a hall's tables gives the tables of the links entered
-effect-lent : (n : ℕ) (ask : Ask) (cost : List ℕ) →
-    applied n (rule n ask cost .effect) (lent (record { n = n; ask = ask }) (filled scale n cost)) ≡ filled scale n (entered (rule n ask cost .effect) cost)
-unfolding rule filled
-effect-lent n ask cost =
-    by-lent n (λ ask t. applied n (rule n ask cost .effect) t ≡ filled scale n (entered (rule n ask cost .effect) cost)) (filled scale n cost)
-    (λ ask. applied-filled n (rule n ask cost .effect) cost) (λ c. refl) ask
-
 -- a call that was made on the tables of a book: its answer is the book's, and the five after it are those of the book after it
 module _ (s : Step) (b : Book) (h : Held (b .stops) (b .links)) (d : Done (s .call) (lent (s .call) (tablesOf b)) (s .left) (s .answer)) where
   refusal-made : refusal (s .call) (lent (s .call) (tablesOf b)) ≡ bookRefusal (s .call) b
@@ -212,16 +192,18 @@ module _ (s : Step) (b : Book) (h : Held (b .stops) (b .links)) (d : Done (s .ca
   answer-made = d .answered ∙ rw (refusal-made, rule-lent (s .call .n) (s .call .ask) (tablesOf b))
 
   pub kept-made : kept s (tablesOf b) ≡ tablesOf (bookAfter (s .call) b)
-  unfolding after bookAfter bookAnswer reply filled
-  kept-made = rw (answer-made, d .left, refusal-made, rule-lent (s .call .n) (s .call .ask) (tablesOf b)) (go (accepted (bookRefusal (s .call) b)) refl)
+  unfolding after bookAfter filled
+  kept-made =
+      rw (answer-made, book-refusal (s .call) b, d .left, refusal-made, rule-lent (s .call .n) (s .call .ask) (tablesOf b))
+      (go (accepted (bookRefusal (s .call) b)) refl)
     where
-      effect : Effect
-      effect = rule (s .call .n) (s .call .ask) (b .links) .effect
+      leaves : List ℕ
+      leaves = rule (s .call .n) (s .call .ask) (b .links) .leaves
 
       go : (x : Bool) → accepted (bookRefusal (s .call) b) ≡ x →
-          let t′ : Tables = cond x (applied (s .call .n) effect (lent (s .call) (tablesOf b))) (lent (s .call) (tablesOf b)) in
-          withCost (cond x (t′ .cost) (b .links)) t′ ≡ filled scale (b .stops) (cond x (entered effect (b .links)) (b .links))
-      go true e = rw (← accepted-book (s .call) b e .0) (effect-lent (s .call .n) (s .call .ask) (b .links))
+          let t′ : Tables = cond x (filled scale (s .call .n) leaves) (lent (s .call) (tablesOf b)) in
+          withCost (cond x (t′ .cost) (b .links)) t′ ≡ filled scale (b .stops) (cond x leaves (b .links))
+      go true e = rw (← accepted-book (s .call) b e .0)
       go false e = refl
 
 -- an answer other than 3

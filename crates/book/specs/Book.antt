@@ -7,7 +7,7 @@ use lib.Dec.{eqb, ltb}
 use lib.ListN.{getD, replicate}
 use Rattle.routes.specs.Route.{sumTo, allTo, has}
 use Rattle.book.specs.Hall.{Tables, scale, entry, filled, touched}
-use Rattle.book.specs.Call.{emptyHall, edit, Call, Effect, stays, fills, Rule, rule, Answer, accepted, chain, reply, Done}
+use Rattle.book.specs.Call.{emptyHall, edit, Call, Rule, rule, Answer, accepted, chain, reply, Done}
 use Rattle.book.specs.declared.Edit.{Edit}
 use Rattle.book.specs.declared.Refusal.{Refusal}
 use Rattle.book.specs.declared.Refusal.the-variants.{Accepted}
@@ -17,11 +17,6 @@ pub record Book : Type 0 where
   pub stops : ℕ
   pub links : List ℕ
 
--- an effect on its links
-abbrev pub entered : Effect → List ℕ → List ℕ
-entered stays links = links
-entered (fills cost) links = cost
-
 -- a call is refused by the same tests: 2 if its n is not N or what it brings does not fit, 3 never
 unfoldable pub bookRefusal : Call → Book → Refusal
 bookRefusal c b =
@@ -29,10 +24,10 @@ bookRefusal c b =
     chain (c .n) (r .fits && eqb (c .n) (b .stops)) true (r .tests)
 
 unfoldable pub bookAfter : Call → Book → Book
-bookAfter c b = record { stops = b .stops; links = cond (accepted (bookRefusal c b)) (entered (rule (c .n) (c .ask) (b .links) .effect) (b .links)) (b .links) }
+bookAfter c b = record { stops = b .stops; links = cond (accepted (bookRefusal c b)) (rule (c .n) (c .ask) (b .links) .leaves) (b .links) }
 
 unfoldable pub bookAnswer : Call → Book → Answer
-bookAnswer c b = reply (c .n) (bookRefusal c b) (rule (c .n) (c .ask) (b .links) .says)
+bookAnswer c b = reply (bookRefusal c b) (rule (c .n) (c .ask) (b .links))
 
 -- the book at first: no links
 abbrev pub noLinks : ℕ → Book
@@ -58,14 +53,15 @@ pub record Step : Type 0 where
 abbrev pub callsOf : List Step → List Call
 callsOf steps = map (λ s. s .call) steps
 
--- the five tables with another cost table; what a call is lent of the five t, and what the five are after it: as it left them, but
--- after a refused call the former cost table stays, so that the one that a work out brought goes (`kept-left`: no other brings one)
+-- the five tables with another cost table
 abbrev pub withCost : List ℕ → Tables → Tables
 withCost cost t = record { cost = cost; time = t .time; ways = t .ways; share = t .share; score = t .score }
 
+-- what a call is lent of the five t: all of them, but work out its own cost table
 abbrev pub lent : Call → Tables → Tables
-lent c t = withCost (rule (c .n) (c .ask) (t .cost) .cost) t
+lent c t = withCost (rule (c .n) (c .ask) (t .cost) .lentCost) t
 
+-- the five after it: as it left them, but after a refused call the former cost table stays, so that one that a work out brought goes
 abbrev pub kept : Step → Tables → Tables
 kept s t = withCost (cond (accepted (s .answer .refusal)) (s .left .cost) (t .cost)) (s .left)
 

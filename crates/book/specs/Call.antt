@@ -1,8 +1,8 @@
--- The calls of document 01: one rule says what each looks at, does and says; by it the refusal, the tables after the call and the
--- answer on any tables; and what a contract promises. Assumes nothing.
+-- The calls of document 01: one rule says what each is lent, looks at, leaves and says; by it the refusal, the tables after the call
+-- and the answer on any tables; and what a contract promises. Assumes nothing.
 use Prim.Native.Nat.{ℕ, _+_, _*_}
 use mathlib.Core.Path.{_≡_}
-use mathlib.Core.Bool.{Bool, true, false, cond, _&&_}
+use mathlib.Core.Bool.{Bool, true, cond, _&&_}
 use mathlib.Core.List.{List, [], _++_}
 use lib.Dec.{eqb, ltb, leb}
 use lib.ListN.{length, drop, set, replicate}
@@ -73,58 +73,6 @@ costSet Delete c = 0
 abbrev pub withEdit : ℕ → Edit → List ℕ → List ℕ
 withEdit n e cost = set cost (e .u * n + e .v) (costSet (e .kind) (e .cost))
 
--- which tables a call asks for in test 3
-pub data Audit : Type 0 where
-  anyTables rightTables : Audit
-
--- what an accepted call does: nothing, or it leaves the tables of a cost table
-pub data Effect : Type 0 where
-  stays : Effect
-  fills : (cost : List ℕ) → Effect
-
--- what a call says: the sources that it names and the bytes that it writes, if it is accepted, and the buffer that it is lent for them
-pub record Says : Type 0 where
-  pub sources : ℕ → Bool
-  pub bytes : List ℕ
-  pub buffer : List ℕ
-
-abbrev pub quiet : Says
-quiet = record { sources = λ s. false; bytes = []; buffer = [] }
-
-abbrev pub names : (ℕ → Bool) → Says
-names sources = record { sources = sources; bytes = []; buffer = [] }
-
-abbrev pub writes : (bytes buffer : List ℕ) → Says
-writes bytes buffer = record { sources = λ s. false; bytes = bytes; buffer = buffer }
-
--- what a call looks at, does and says, over the present costs
-pub record Rule : Type 0 where
-  pub cost : List ℕ  -- the cost table that it is lent: the present one, or the one that it brings
-  pub fits : Bool  -- 2, of what it brings
-  pub audits : Audit  -- 3
-  pub tests : Refusal  -- 4 to 11
-  pub effect : Effect
-  pub says : Says
-
--- a call that brings no table
-abbrev pub onPresent : List ℕ → Audit → Refusal → Effect → Says → Rule
-onPresent cost audits tests effect says = record { cost = cost; fits = true; audits = audits; tests = tests; effect = effect; says = says }
-
-unfoldable pub rule : ℕ → Ask → List ℕ → Rule
-rule n emptyHall cost = onPresent cost anyTables Accepted (fills (replicate (n * n) 0)) quiet
-rule n audit cost = onPresent cost rightTables Accepted stays quiet
-rule n (workOut c) cost =
-    record { cost = c; fits = eqb (length c) (n * n); audits = anyTables; tests = need (validCosts n c) BadCost (waysTest n c); effect = fills c; says = quiet }
-rule n (edit e) cost =
-    let left : List ℕ = withEdit n e cost in
-    onPresent cost rightTables (editTests n e cost (waysTest n left)) (fills left) (names (touched n cost left (e .u) (e .v)))
-rule n (imageWrite buffer) cost =
-    let image : List ℕ = imageOf n cost in
-    onPresent cost rightTables (need (leb (length image) (length buffer)) ShortBuffer Accepted) stays (writes image buffer)
-rule n (imageRead image) cost =
-    let left : List ℕ = costsOf n image in
-    onPresent cost anyTables (need (isImage n image) BadImage (waysTest n left)) (fills left) quiet
-
 -- an edit's set of touched sources and their number, an image write's length, and the buffer after the call
 pub record Answer : Type 0 where
   pub refusal : Refusal
@@ -133,39 +81,67 @@ pub record Answer : Type 0 where
   pub length : ℕ
   pub buffer : List ℕ
 
--- the answer of a call: a refused one names no source and writes no byte
-unfoldable pub reply : ℕ → Refusal → Says → Answer
-reply n refusal says =
-    let sources : ℕ → Bool = λ s. accepted refusal && says .sources s in
-    let bytes : List ℕ = cond (accepted refusal) (says .bytes) [] in
-    let buffer : List ℕ = bytes ++ drop (length bytes) (says .buffer) in
-    record { refusal = refusal; touched = setOf n sources; rows = sumTo n (λ s. cond (sources s) 1 0); length = length bytes; buffer = buffer }
+-- the answer of any refused call, and of an accepted one that has no more to tell: the buffer is as it was lent
+abbrev pub plain : Refusal → List ℕ → Answer
+plain refusal buffer = record { refusal = refusal; touched = 0; rows = 0; length = 0; buffer = buffer }
+
+-- of an accepted call that names sources
+abbrev pub names : ℕ → (ℕ → Bool) → Answer
+names n sources = record { refusal = Accepted; touched = setOf n sources; rows = sumTo n (λ s. cond (sources s) 1 0); length = 0; buffer = [] }
+
+-- of an accepted call that writes bytes in front of its buffer
+abbrev pub writes : (bytes buffer : List ℕ) → Answer
+writes bytes buffer = record { refusal = Accepted; touched = 0; rows = 0; length = length bytes; buffer = bytes ++ drop (length bytes) buffer }
+
+-- what a call is lent and looks at, over the present costs, and what it leaves and says if it is accepted
+pub record Rule : Type 0 where
+  pub lentCost : List ℕ  -- the present cost table, or the one that it brings
+  pub lentBuffer : List ℕ
+  pub fits : Bool  -- 2, of what it brings
+  pub sound : Tables → Bool  -- 3; true where it does not look
+  pub tests : Refusal  -- 4 to 11
+  pub leaves : List ℕ  -- the costs of the hall whose tables it leaves: where they are the present ones and sound, those that it was lent
+  pub says : Answer
+
+-- a call that brings nothing and is lent no buffer
+abbrev pub onPresent : List ℕ → (Tables → Bool) → Refusal → List ℕ → Answer → Rule
+onPresent cost sound tests leaves says = record { lentCost = cost; lentBuffer = []; fits = true; sound = sound; tests = tests; leaves = leaves; says = says }
+
+-- by n, what is asked and the present costs
+unfoldable pub rule : ℕ → Ask → List ℕ → Rule
+rule n emptyHall cost = onPresent cost (λ t. true) Accepted (replicate (n * n) 0) (plain Accepted [])
+rule n audit cost = onPresent cost (right scale mostWays n) Accepted cost (plain Accepted [])
+rule n (workOut c) cost =
+    record { lentCost = c; lentBuffer = []; fits = eqb (length c) (n * n); sound = λ t. true; tests = need (validCosts n c) BadCost (waysTest n c); leaves = c; says = plain Accepted [] }
+rule n (edit e) cost =
+    let cost′ : List ℕ = withEdit n e cost in
+    onPresent cost (right scale mostWays n) (editTests n e cost (waysTest n cost′)) cost′ (names n (touched n cost cost′ (e .u) (e .v)))
+rule n (imageWrite buffer) cost =
+    let image : List ℕ = imageOf n cost in
+    record { lentCost = cost; lentBuffer = buffer; fits = true; sound = right scale mostWays n; tests = need (leb (length image) (length buffer)) ShortBuffer Accepted; leaves = cost; says = writes image buffer }
+rule n (imageRead image) cost =
+    let cost′ : List ℕ = costsOf n image in
+    onPresent cost (λ t. true) (need (isImage n image) BadImage (waysTest n cost′)) cost′ (plain Accepted [])
 
 -- tests 1, 2 and 3, and then the call's own
 abbrev pub chain : ℕ → (lengths sound : Bool) → Refusal → Refusal
 chain n lengths sound tests = need (upTo mostStops n) BadSize (need lengths BadLength (need sound BadTables tests))
 
--- test 3 on any tables
-abbrev pub passes : Audit → ℕ → Tables → Bool
-passes anyTables n t = true
-passes rightTables n t = right scale mostWays n t
-
--- an effect on tables
-abbrev pub applied : ℕ → Effect → Tables → Tables
-applied n stays t = t
-applied n (fills cost) t = filled scale n cost
+-- the answer by a rule: a refused call says its refusal alone
+abbrev pub reply : Refusal → Rule → Answer
+reply refusal r = cond (accepted refusal) (r .says) (plain refusal (r .lentBuffer))
 
 -- the call on any tables: its refusal, by the first test that fails, the tables after it and its answer
 unfoldable pub refusal : Call → Tables → Refusal
 refusal c t =
     let r : Rule = rule (c .n) (c .ask) (t .cost) in
-    chain (c .n) (r .fits && sized (c .n) t) (passes (r .audits) (c .n) t) (r .tests)
+    chain (c .n) (r .fits && sized (c .n) t) (r .sound t) (r .tests)
 
 unfoldable pub after : Call → Tables → Tables
-after c t = cond (accepted (refusal c t)) (applied (c .n) (rule (c .n) (c .ask) (t .cost) .effect) t) t
+after c t = cond (accepted (refusal c t)) (filled scale (c .n) (rule (c .n) (c .ask) (t .cost) .leaves)) t
 
 unfoldable pub answer : Call → Tables → Answer
-answer c t = reply (c .n) (refusal c t) (rule (c .n) (c .ask) (t .cost) .says)
+answer c t = reply (refusal c t) (rule (c .n) (c .ask) (t .cost))
 
 -- what the contract of every call promises: lent the tables t, it left the tables t′ and answered a, as document 01 says
 pub record Done (c : Call) (t t′ : Tables) (a : Answer) : Type 0 where

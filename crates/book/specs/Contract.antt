@@ -7,7 +7,7 @@ use mathlib.Core.List.{List, []}
 use denote.Ref.{RefT}
 use denote.Triple.Both.{Both}
 use Rattle.book.specs.Hall.{Tables, mostStops, mostWays, scale, upTo, sized, right}
-use Rattle.book.specs.Call.{Answer, chain}
+use Rattle.book.specs.Call.{Answer, plain, chain}
 use Rattle.book.specs.declared.EditAnswer.{EditAnswer}
 use Rattle.book.specs.declared.WriteAnswer.{WriteAnswer}
 use Rattle.book.specs.declared.Refusal.{Refusal}
@@ -39,7 +39,7 @@ leftBeside cost time ways share score = these (cost .entry) (time .exit) (ways .
 
 -- an answer as the code gives it: a refusal alone, an edit's, and an image write's with its buffer
 abbrev pub ofRefusal : Refusal → Answer
-ofRefusal r = record { refusal = r; touched = 0; rows = 0; length = 0; buffer = [] }
+ofRefusal r = plain r []
 
 abbrev pub ofEdit : EditAnswer → Answer
 ofEdit a = record { refusal = a .refusal; touched = a .touched; rows = a .rows; length = 0; buffer = [] }

@@ -25,7 +25,7 @@ fn lent(entries: usize, room: usize, odd: u64, i: u64) -> usize
     entries
 }
 
-// The length of table i of n × n entries.
+// The length of table i of n × n entries. Its callers prove that i is from 1 to 5.
 pub fn square(n: u64, odd: u64, i: u64) -> usize
     requires { ⌜ (0 < i) × (i < 6) ⌝ }
     ensures { λ r. ⌜ (n ≤ 65 → odd ≡ 0 → r ≡ n * n) × (r ≤ 4225) ⌝ }

@@ -1,18 +1,11 @@
 -- From the tests of an edit to what it promises. Assumes nothing.
-use Prim.Native.Nat.{ℕ, _+_, _*_, _^_, _<_, _≤_}
+use Prim.Native.Nat.{ℕ}
 use mathlib.Core.Path.{_≡_, refl, sym, _∙_, ap}
-use mathlib.Core.Logic.{_≢_}
-use mathlib.Core.Bool.{Bool, true, false, cond, not, _&&_, and-eq-true-iff}
-use mathlib.Core.List.{List}
+use mathlib.Core.Bool.{Bool, true, false, cond}
 use lib.Dec.{eqb, ltb}
-use lib.Count.{ones}
-use lib.ListN.{length, getD, set}
-use Rattle.routes.specs.Route.{setOf}
-use Rattle.routes.proofs.Bits.{ones-setOf}
-use borrow.Author.Tests.{eqb-false, ltb-true, not-true}
-use Rattle.book.specs.Hall.{Tables, largestCost, mostWays, scale, upTo, entry, filled, validPair, uncrowded, touched}
-use Rattle.book.specs.Call.{Call, edit, accepted, need, costTests, editTests, waysTest, costSet, withEdit, rule, Answer, reply, refusal, after, answer, Done}
-use Rattle.book.specs.Contract.{tables, ofRefusal, ofEdit, Audited}
+use Rattle.book.specs.Hall.{Tables, largestCost, mostWays, scale, upTo, entry, validPair, uncrowded}
+use Rattle.book.specs.Call.{Call, edit, accepted, need, costTests, editTests, waysTest, costSet, withEdit, rule, Answer, refusal, after, answer, Done}
+use Rattle.book.specs.Contract.{ofRefusal, Audited}
 use Rattle.book.specs.declared.Edit.{Edit}
 use Rattle.book.specs.declared.Kind.{Kind}
 use Rattle.book.specs.declared.Kind.the-variants.{Insert, Cheapen, Delete}
@@ -23,23 +16,8 @@ use Rattle.book.proofs.Passed.{need-true, cost-tests}
 use Rattle.book.proofs.Sizes.{stops, lengths}
 use Rattle.book.proofs.Refused.{refused-done}
 use Rattle.book.proofs.Doors.{behind-audit}
-use Rattle.tables.specs.Promise.{Shares, summed, FilledAll}
-use Rattle.tables.proofs.Sums.{summed-whole}
-use Rattle.tables.proofs.Worked.{worked-shares, worked-scores}
-use Rattle.edits.proofs.Laws.{square′, valid′}
-use Rattle.edits.specs.Promise.{Change, Applied}
-
--- what the test of two stops tells
-pub pair-true : (n u v : ℕ) → validPair n u v ≡ true → (u < n) × (v < n) × (u ≢ v)
-pair-true n u v e =
-    let (from, rest) = and-eq-true-iff (ltb u n) (ltb v n && not (eqb u v)) .0 e in
-    let (to, apart) = and-eq-true-iff (ltb v n) (not (eqb u v)) .0 rest in
-    (ltb-true u n from, ltb-true v n to, eqb-false u v (not-true (eqb u v) apart))
-
--- 5 to 8 by the kind, and the entry at its place
-pub by-kind : (n : ℕ) (e : Edit) (cost : List ℕ) {k : Kind} {at : ℕ} {r : Refusal} → validPair n (e .u) (e .v) ≡ true → e .kind ≡ k → at ≡ e .u * n →
-    r ≡ costTests k (e .cost) (getD cost (at + e .v) 0) Accepted → r ≡ editTests n e cost Accepted
-by-kind n e cost pair kind place h = rw (pair, kind, ← place) h
+use Rattle.permit.proofs.Tests.{pair-true}
+use Rattle.changes.specs.Promise.{Change, Applied}
 
 -- where the first tests pass the next ones follow, else the refusal of the first stands
 record Chain (first next whole : Refusal) : Type 0 where
@@ -56,42 +34,6 @@ cost-chain : (k : Kind) (c present : ℕ) {next : Refusal} → Chain (costTests 
 cost-chain Insert c present = chained (upTo largestCost c) BadCost refl (chained (eqb present 0) LinkPresent refl ends)
 cost-chain Cheapen c present = chained (upTo largestCost c) BadCost refl (chained (ltb 0 present) LinkAbsent refl (chained (ltb c present) NotCheaper refl ends))
 cost-chain Delete c present = chained (ltb 0 present) LinkAbsent refl ends
-
--- the inner edit, once its rows were tried: what it asks to sum the scores, and what it leaves and answers
-module _ (m L n u v new : ℕ) (t : Tables) (h : Change m L n u v new (t .cost) (t .time) (t .ways) (t .share)) (fits : Bool) (cost′ times′ counts′ shares′ : List ℕ)
-    (tried : FilledAll m L n (set (t .cost) (u * n + v) new) (t .time) (t .ways) (t .share) times′ counts′ shares′ fits)
-    (costs : cost′ ≡ cond fits (set (t .cost) (u * n + v) new) (t .cost)) where
-  pub shares-applied : L ≤ 2 ^ 32 → fits ≡ true → Shares n shares′
-  shares-applied fine f =
-      worked-shares L n (set (t .cost) (u * n + v) new) shares′ (rw f at (tried .shares)) fine (h .most)
-      (square′ h) (valid′ h)
-
-  pub not-applied : fits ≡ false → Applied m L n u v new t (tables cost′ times′ counts′ shares′ (t .score)) (ofRefusal TooManyWays)
-  not-applied f = record {
-    left = rw (← tried .said, f) λ i. record {
-      cost = (rw f at costs) i;
-      time = (rw f at (tried .times)) i;
-      ways = (rw f at (tried .counts)) i;
-      share = (rw f at (tried .shares)) i;
-      score = t .score;
-    };
-    answered = rw (← tried .said, f);
-  }
-
-  pub applied : fits ≡ true → (sources : ℕ) → sources ≡ setOf n (touched n (t .cost) (set (t .cost) (u * n + v) new) u v) → (count : ℕ) → count ≡ ones sources →
-      length (t .score) ≡ n → (score′ : List ℕ) → score′ ≡ summed n n shares′ (t .score) →
-      Applied m L n u v new t (tables cost′ times′ counts′ shares′ score′) (ofEdit (record { refusal = Accepted; touched = sources; rows = count }))
-  unfolding filled reply
-  applied f sources e count o long score′ sums = record {
-    left = rw (← tried .said, f) λ i. record {
-      cost = (rw f at costs) i;
-      time = (rw f at (tried .times)) i;
-      ways = (rw f at (tried .counts)) i;
-      share = (rw f at (tried .shares)) i;
-      score = (sums ∙ summed-whole n shares′ (t .score) long ∙ worked-scores L n (set (t .cost) (u * n + v) new) shares′ (rw f at (tried .shares))) i;
-    };
-    answered = rw (← tried .said, f) λ i. ofEdit (record { refusal = Accepted; touched = e i; rows = (o ∙ ap ones e ∙ ones-setOf n _) i });
-  }
 
 module _ (n : ℕ) (e : Edit) (t : Tables) (a : Audited n t) where
   abbrev call : Call

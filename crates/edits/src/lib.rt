@@ -1,5 +1,3 @@
 // The edit of a link: insert, cheapen and delete.
 pub mod audited;
 pub mod edit;
-mod permit;
-mod touch;

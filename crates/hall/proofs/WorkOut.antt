@@ -12,10 +12,11 @@ use Rattle.book.specs.Contract.{tables, ofRefusal, Inside}
 use Rattle.book.specs.declared.Refusal.the-variants.{Accepted, BadCost, TooManyWays}
 use Rattle.book.proofs.Sizes.{stops, lengths}
 use Rattle.book.proofs.Refused.{refused-done}
-use Rattle.book.proofs.Doors.{behind-door, quiet-done}
-use Rattle.tables.specs.Promise.{FilledAll, Shares, summed}
+use Rattle.book.proofs.Doors.{behind-door, accepted-done}
+use Rattle.cells.specs.Promise.{Shares, summed}
+use Rattle.cells.proofs.Sums.{summed-whole}
+use Rattle.tables.specs.Promise.{FilledAll}
 use Rattle.tables.proofs.Measured.{hall-measure}
-use Rattle.tables.proofs.Sums.{summed-whole}
 use Rattle.tables.proofs.Worked.{worked-scores, worked-shares}
 
 -- its own cost table is one of the five that it is lent, so where these have their lengths it fits
@@ -62,10 +63,10 @@ module _ (n : ℕ) (cost time ways share score : List ℕ) (i : Inside n (tables
     pub work-accepted : fit ≡ true → {score′ : List ℕ} → score′ ≡ summed n n share′ score → Done call found (tables cost time′ ways′ share′ score′) (ofRefusal Accepted)
     unfolding rule filled
     work-accepted e {score′} sums =
-        quiet-done call found (tables cost time′ ways′ share′ score′) refl (work-refusal ∙ rw (valid, sym (a .said) ∙ e)) λ j. record {
+        accepted-done call found (tables cost time′ ways′ share′ score′) (ofRefusal Accepted) (work-refusal ∙ rw (valid, sym (a .said) ∙ e)) (λ j. record {
           cost = cost;
           time = (a .times ∙ cond-true _ time e) j;
           ways = (a .counts ∙ cond-true _ ways e) j;
           share = (a .shares ∙ cond-true _ share e) j;
           score = (sums ∙ summed-whole n share′ score (lengths n found (i .lengths) .scores) ∙ worked-scores scale n cost share′ (a .shares ∙ cond-true _ share e)) j;
-        }
+        }) refl

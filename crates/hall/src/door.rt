@@ -1,7 +1,7 @@
 // The door: the tests that every call on the five tables begins with.
 use book::Refusal;
 use book::limits::Hall;
-use tables::places;
+use cells::places;
 ghost use mathlib.Core.Path.{_≡_};
 ghost use Rattle.book.specs.Contract.{found, doorTests};
 

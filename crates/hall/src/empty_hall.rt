@@ -3,7 +3,7 @@ use super::door::door;
 use book::Refusal;
 use book::limits::Hall;
 use book::number_of::passes;
-use tables::places;
+use cells::places;
 ghost use mathlib.Core.Path.{_≡_};
 ghost use Prim.Native.Nat.{_*_, _≤_};
 ghost use lib.ListN.{length, replicate};

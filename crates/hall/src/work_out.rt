@@ -3,9 +3,9 @@ use super::door::door;
 use book::Refusal;
 use book::limits::Hall;
 use book::number_of::passes;
-use tables::costs;
+use cells::costs;
+use cells::scores;
 use tables::fill_all::fill_all;
-use tables::scores;
 ghost use Rattle.book.specs.Call.{workOut, Done};
 ghost use Rattle.book.specs.Contract.{these, found, leftBeside, ofRefusal, Inside};
 

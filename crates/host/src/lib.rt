@@ -7,7 +7,7 @@ use edits::edit::edit;
 use hall::audit::audit;
 use hall::empty_hall::empty_hall;
 use hall::work_out::work_out;
-use images::image_check::image_check;
+use image_form::image_check::image_check;
 use images::image_read::image_read;
 use images::image_write::image_write;
 ghost use mathlib.Core.Path.{_≡_};

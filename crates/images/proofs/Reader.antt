@@ -12,15 +12,16 @@ use Rattle.book.specs.Hall.{Tables, mostWays, scale, filled, isImage, costsOf}
 use Rattle.book.specs.Call.{Call, imageRead, need, waysTest, rule, refusal, Done}
 use Rattle.book.specs.Contract.{tables, ofRefusal, Inside}
 use Rattle.book.proofs.Refused.{refused-done}
-use Rattle.book.proofs.Doors.{behind-door, quiet-done}
+use Rattle.book.proofs.Doors.{behind-door, accepted-done}
 use Rattle.book.specs.declared.Refusal.the-variants.{Accepted, BadImage, TooManyWays}
 use Rattle.book.proofs.Records.{from, to, costAt, costsTo, costs-more}
 use Rattle.book.proofs.Images.{Image, length-read, read-valid}
-use Rattle.tables.specs.Promise.{FilledAll, Shares, summed}
+use Rattle.cells.specs.Promise.{Shares, summed}
+use Rattle.tables.specs.Promise.{FilledAll}
 use Rattle.images.specs.Promise.{Loaded}
 use Rattle.book.proofs.Sizes.{stops, lengths}
+use Rattle.cells.proofs.Sums.{summed-whole}
 use Rattle.tables.proofs.Measured.{hall-measure}
-use Rattle.tables.proofs.Sums.{summed-whole}
 use Rattle.tables.proofs.Worked.{worked-scores, worked-shares}
 
 -- the front of a table of zeros
@@ -79,10 +80,10 @@ module _ (n : ℕ) (image cost time ways share score : List ℕ) (i : Inside n (
     pub read-accepted : fit ≡ true → {score′ : List ℕ} → score′ ≡ summed n n share′ score → Done call found (tables cost′ time′ ways′ share′ score′) (ofRefusal Accepted)
     unfolding rule filled
     read-accepted e {score′} sums =
-        quiet-done call found (tables cost′ time′ ways′ share′ score′) refl (read-refusal ∙ rw (whole, sym (a .others .said) ∙ e)) λ j. record {
+        accepted-done call found (tables cost′ time′ ways′ share′ score′) (ofRefusal Accepted) (read-refusal ∙ rw (whole, sym (a .others .said) ∙ e)) (λ j. record {
           cost = (a .costs ∙ cond-true _ cost e) j;
           time = (a .others .times ∙ cond-true _ time e) j;
           ways = (a .others .counts ∙ cond-true _ ways e) j;
           share = (a .others .shares ∙ cond-true _ share e) j;
           score = (sums ∙ summed-whole n share′ score (lengths n found (i .lengths) .scores) ∙ worked-scores scale n (costsOf n image) share′ (a .others .shares ∙ cond-true _ share e)) j;
-        }
+        }) refl

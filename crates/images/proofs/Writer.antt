@@ -1,17 +1,18 @@
 -- The steps of an image's writer, and what the call answers. Assumes nothing.
 use Prim.Native.Nat.{ℕ, zero, suc, _+_, _*_, _/_, _%_, _<_, _≤_}
 use mathlib.Core.Path.{_≡_, refl, sym, _∙_, ap}
-use mathlib.Core.Bool.{false, cond, _&&_, and-false}
-use mathlib.Core.List.{List, [], _++_}
+use mathlib.Core.Bool.{Bool, true, false, cond}
+use mathlib.Core.List.{List, _++_}
 use native.Mathlib.Nat.{add-zero, zero-mul, suc-mul, div-div-eq-div-mul}
 use native.Mathlib.Numerals.{add-one}
 use native.Mathlib.Omega.{arith}
+use lib.Dec.{leb}
 use lib.ListN.{length, getD, drop}
 use lib.Seq.{sets}
 use borrow.Author.Tests.{le-leb, lt-leb}
 use Rattle.routes.specs.Route.{sumTo}
 use Rattle.book.specs.Hall.{Tables, entry, imageOf}
-use Rattle.book.specs.Call.{Call, imageWrite, accepted, writes, rule, Answer, reply, answer, Done}
+use Rattle.book.specs.Call.{Call, imageWrite, accepted, need, Answer, plain, writes, rule, answer, Done}
 use Rattle.book.specs.Contract.{ofWrite, Audited}
 use Rattle.book.proofs.Calls.{write-leaves}
 use Rattle.book.proofs.Doors.{behind-audit}
@@ -21,7 +22,6 @@ use Rattle.book.proofs.Bytes.{stored as put}
 use Rattle.book.specs.Written.{linkRecord, recordsTo, linksTo, trailer}
 use Rattle.book.proofs.Writer.{records-none, records-more, records-row, links-more, links-row, links-grow, length-record, length-records, length-image, trailer-stored}
 use Rattle.images.specs.Promise.{linkBit, linkBytes, links, stored, Wrote}
-use Rattle.book.proofs.Answers.{untouched}
 
 -- the bytes of a number's low half and of its high half are its four bytes
 pub half-bytes : (x : ℕ) →
@@ -49,15 +49,6 @@ sumTo-rows (suc m) n f = rw suc-mul (omega (arith, sumTo-append (m * n) n f, sum
 pub links-all : (n : ℕ) (cost : List ℕ) → length cost ≡ n * n → links cost ≡ linksTo n (entry n cost) n 0
 unfolding linksTo sumTo
 links-all n cost e = rw e (sumTo-rows n n (λ i. linkBit (getD cost i 0)) ∙ omega arith)
-
--- the answer of a call that writes
-write-reply : (n : ℕ) (r : Refusal) (image buffer : List ℕ) →
-    let bytes : List ℕ = cond (accepted r) image [] in
-    reply n r (writes image buffer) ≡ ofWrite (record { refusal = r; length = length bytes }) (bytes ++ drop (length bytes) buffer)
-unfolding reply
-write-reply n r image buffer =
-    let bytes : List ℕ = cond (accepted r) image [] in
-    untouched n r (λ s. accepted r && false) (λ s. rw and-false) (length bytes) (bytes ++ drop (length bytes) buffer)
 
 module _ (n : ℕ) (cost : List ℕ) where
   -- nothing written yet
@@ -105,7 +96,7 @@ module _ (n : ℕ) (cost : List ℕ) where
 
     -- too short a buffer
     pub store-short : (b : List ℕ) → length b < 4 * c + 8 → ofWrite (record { refusal = ShortBuffer; length = 0 }) b ≡ stored n cost b
-    store-short b h = rw (lt-leb (length (imageOf n cost)) (length b) (omega (arith, image-size))) (sym (write-reply n ShortBuffer (imageOf n cost) b))
+    store-short b h = rw (lt-leb (length (imageOf n cost)) (length b) (omega (arith, image-size)))
 
     -- all records, and the trailer behind them
     pub store-whole : {at : ℕ} {b rows all : List ℕ} → 4 * c + 8 ≤ length b → Wrote n cost 0 0 0 n 0 at b rows →
@@ -117,7 +108,7 @@ module _ (n : ℕ) (cost : List ℕ) where
         let end : at + 8 ≡ 4 * c + 8 = omega arith in
         let bytes : all ≡ imageOf n cost ++ drop (4 * c + 8) b = f ∙ rw (w .bytes b refl none) (rw end at (trailer-stored n cost b c at total place (omega arith))) in
         rw (le-leb (length (imageOf n cost)) (length b) (omega (arith, image-size)))
-        (ap (ofWrite (record { refusal = Accepted; length = 4 * c + 8 })) bytes ∙ rw (← image-size) (sym (write-reply n Accepted (imageOf n cost) b)))
+        (ap (ofWrite (record { refusal = Accepted; length = 4 * c + 8 })) bytes ∙ rw (← image-size))
 
 module _ (n : ℕ) (t : Tables) (buffer : List ℕ) where
   abbrev call : Call
@@ -126,4 +117,13 @@ module _ (n : ℕ) (t : Tables) (buffer : List ℕ) where
   -- right tables: the image is stored where it fits
   pub write-stored : {a : Answer} → Audited n t → a ≡ stored n (t .cost) buffer → Done call t t a
   unfolding answer rule
-  write-stored {a} audited e = record { left = sym (write-leaves n t buffer); answered = e ∙ rw (behind-audit call t (λ s. refl) refl audited) }
+  write-stored {a} audited e = record {
+    left = sym (write-leaves n t buffer);
+    answered = e ∙ rw (behind-audit call t (λ s. refl) refl audited) (go (leb (length (imageOf n (t .cost))) (length buffer)));
+  }
+    where
+      go : (b : Bool) →
+          let r : Refusal = need b ShortBuffer Accepted in
+          cond b (writes (imageOf n (t .cost)) buffer) (plain ShortBuffer buffer) ≡ cond (accepted r) (writes (imageOf n (t .cost)) buffer) (plain r buffer)
+      go true = refl
+      go false = refl

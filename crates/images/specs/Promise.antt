@@ -1,25 +1,16 @@
--- What the functions on images promise. Assumes nothing.
-use Prim.Native.Nat.{ℕ, _+_, _*_, _≤_}
+-- What the writing and the reading of images promise. Assumes nothing.
+use Prim.Native.Nat.{ℕ, _*_, _≤_}
 use mathlib.Core.Path.{_≡_}
-use mathlib.Core.Bool.{Bool, true, cond, _&&_}
+use mathlib.Core.Bool.{Bool, true, cond}
 use mathlib.Core.List.{List, [], _∷_, _++_}
 use lib.Dec.{ltb, leb}
 use lib.ListN.{length, getD, drop}
 use Rattle.routes.specs.Route.{sumTo}
-use Rattle.book.specs.Hall.{largestCost, mostWays, scale, entry, upTo, validPair, validCosts, lowFirst, field, imageOf, costsOf}
-use Rattle.book.specs.Call.{need, writes, Answer, reply}
+use Rattle.book.specs.Hall.{mostWays, scale, entry, validCosts, lowFirst, imageOf, costsOf}
+use Rattle.book.specs.Call.{Answer, plain, writes}
 use Rattle.book.specs.Written.{recordsTo, linksTo}
-use Rattle.book.specs.declared.Refusal.the-variants.{Accepted, ShortBuffer}
+use Rattle.book.specs.declared.Refusal.the-variants.{ShortBuffer}
 use Rattle.tables.specs.Promise.{FilledAll}
-
--- the key of the record at a place: its two stops as one number
-abbrev pub keyAt : List ℕ → ℕ → ℕ
-keyAt image at = 256 * field image at 1 + field image (at + 1) 1
-
--- the record at a place is a link, and its key is not below the least
-abbrev pub linkAt : ℕ → List ℕ → ℕ → ℕ → Bool
-linkAt n image at least =
-    validPair n (field image at 1) (field image (at + 1) 1) && (upTo largestCost (field image (at + 2) 2) && leb least (keyAt image at))
 
 -- 1 for the cost of a link, 0 where there is none; its record, no byte where there is none; and the number of links of a cost table
 abbrev pub linkBit : ℕ → ℕ
@@ -35,7 +26,7 @@ links cost = sumTo (length cost) (λ i. linkBit (getD cost i 0))
 abbrev pub stored : ℕ → List ℕ → List ℕ → Answer
 stored n cost buffer =
     let image : List ℕ = imageOf n cost in
-    reply n (need (leb (length image) (length buffer)) ShortBuffer Accepted) (writes image buffer)
+    cond (leb (length image) (length buffer)) (writes image buffer) (plain ShortBuffer buffer)
 
 -- a hall's cost table, and a buffer that has room for all its records
 pub record Room (n : ℕ) (cost buffer : List ℕ) : Type 0 where

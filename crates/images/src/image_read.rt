@@ -1,14 +1,14 @@
 // Image read: the tables of the hall that an image holds.
-use super::fields;
-use super::image_check;
 use book::Refusal;
 use book::limits::Hall;
 use book::number_of::passes;
+use cells::places;
+use cells::scores;
+use cells::snapshot;
 use hall::door::door;
+use image_form::fields;
+use image_form::image_check;
 use tables::fill_all;
-use tables::places;
-use tables::scores;
-use tables::snapshot;
 ghost use mathlib.Core.Path.{_≡_};
 ghost use mathlib.Core.Bool.{true};
 ghost use Prim.Native.Nat.{_*_, _<_, _≤_};

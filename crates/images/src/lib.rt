@@ -1,5 +1,4 @@
-// Images: the links of a hall as bytes, checked, written and read.
+// Images: the links of a hall as bytes, written and read.
 mod fields;
-pub mod image_check;
 pub mod image_read;
 pub mod image_write;

@@ -7,10 +7,10 @@ use calls::compare::differing;
 use calls::compare::unlike;
 use calls::entries::at_long;
 use calls::entries::put;
-use calls::make::Done;
 use calls::tables::CELLS;
 use calls::tables::Tables;
 use calls::tables::cells;
+use make_call::Done;
 
 // Takes the first entries over from a table of 64 bits.
 fn narrowed(from: &[u64], count: usize, table: &mut [u32; CELLS]) {

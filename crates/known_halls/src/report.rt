@@ -14,12 +14,12 @@ use calls::call::INSERT;
 use calls::call::WORK_OUT;
 use calls::call::plain;
 use calls::compare::differing;
-use calls::make::Done;
-use calls::make::check;
-use calls::make::make;
 use calls::tables::Tables;
 use calls::tables::filled;
 use calls::tables::link;
+use make_call::Done;
+use make_call::check;
+use make_call::make;
 
 // Makes a call that writes no image.
 fn made(call: Call, image: &[u8], t: Tables) -> Done {

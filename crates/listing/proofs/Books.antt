@@ -1,21 +1,22 @@
 -- Laws of tables that pass the audit: they are those of the book with their costs, and an edit of them is the book's. Assumes nothing.
-use Prim.Native.Nat.{ℕ, _*_}
+use Prim.Native.Nat.{ℕ, _*_, _≤_}
 use mathlib.Core.Path.{_≡_, refl, sym, _∙_, ap, subst⁻¹}
 use mathlib.Core.Bool.{Bool, true, false, cond}
+use mathlib.Core.List.{List}
 use lib.ListN.{length}
 use borrow.Author.Tests.{eq-eqb}
 use Rattle.routes.specs.Route.{score}
 use Rattle.book.specs.Hall.{Tables, mostStops, mostWays, scale, upTo, filled, sized, right}
-use Rattle.book.specs.Call.{Call, emptyHall, edit, Effect, Answer, rule, accepted, applied, refusal, after, answer, Done}
-use Rattle.book.specs.Book.{Book, noLinks, entered, bookRefusal, bookAfter, bookAnswer}
+use Rattle.book.specs.Call.{Call, emptyHall, edit, Answer, rule, accepted, refusal, after, answer, Done}
+use Rattle.book.specs.Book.{Book, noLinks, bookRefusal, bookAfter, bookAnswer}
 use Rattle.book.specs.Contract.{Inside, Audited}
 use Rattle.book.proofs.Sizes.{stops, Lengths, lengths}
 use Rattle.book.proofs.Filled.{sized-filled, sized-cost, right-filled, right-true}
-use Rattle.book.proofs.Steps.{Held, held-none, tablesOf, applied-filled, refusal-book, held-after}
+use Rattle.book.proofs.Steps.{Held, held-none, tablesOf, refusal-book, held-after}
 use Rattle.book.specs.declared.Edit.{Edit}
-use Rattle.listing.specs.declared.Line.{Line}
-use Rattle.listing.specs.declared.Line.the-variants.{Read, Unread}
-use Rattle.listing.specs.Text.{editLine, said, next}
+use Rattle.words.specs.declared.Line.{Line}
+use Rattle.words.specs.declared.Line.the-variants.{Read, Unread}
+use Rattle.words.specs.Text.{editLine, said, next}
 use Rattle.listing.specs.Promise.{bookOf}
 
 -- the tables of a book pass the audit
@@ -44,6 +45,9 @@ module _ {n : ℕ} {t : Tables} (s : Audited n t) where
   pub own : t ≡ filled scale n (t .cost)
   own = sym (right-true scale mostWays n t (s .sound) .2)
 
+  pub few-stops : n ≤ mostStops
+  few-stops = stops n (s .inside .size) .1
+
   -- a line leaves the tables of the book after it
   pub next-audited : (l : Line) (t′ : Tables) → t′ ≡ filled scale n (next (bookOf n t) l .links) → (bookOf n t′ ≡ next (bookOf n t) l) × Audited n t′
   unfolding next bookAfter filled
@@ -64,11 +68,11 @@ module _ {n : ℕ} {t : Tables} (s : Audited n t) where
     unfolding after bookAfter filled
     edit-after = rw (refusal-book call book held) (go (accepted (bookRefusal call book)))
       where
-        effect : Effect
-        effect = rule n (edit x) (t .cost) .effect
+        leaves : List ℕ
+        leaves = rule n (edit x) (t .cost) .leaves
 
-        go : (y : Bool) → cond y (applied n effect (tablesOf book)) (tablesOf book) ≡ filled scale n (cond y (entered effect (t .cost)) (t .cost))
-        go true = applied-filled n effect (t .cost)
+        go : (y : Bool) → cond y (filled scale n leaves) (tablesOf book) ≡ filled scale n (cond y leaves (t .cost))
+        go true = refl
         go false = refl
 
     pub edit-left : t′ ≡ filled scale n (next book (Read x) .links)

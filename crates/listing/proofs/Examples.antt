@@ -6,19 +6,19 @@ use mathlib.Core.List.{[], _∷_, map}
 use lib.ListN.{replicate}
 use Rattle.routes.specs.Route.{sumTo, joinTo, listTo, allTo, same, setOf, count, visits, uses, time, least, extend, hops, routes, leastTime, quickest, ways, through, portion, share, used, score}
 use Rattle.book.specs.Hall.{validCosts, uncrowded, touched}
-use Rattle.book.specs.Call.{rule, reply}
+use Rattle.book.specs.Call.{rule}
 use Rattle.book.specs.Book.{bookRefusal, bookAfter, bookAnswer}
 use Rattle.book.specs.declared.Kind.{Kind}
 use Rattle.book.specs.declared.Kind.the-variants.{Insert, Cheapen, Delete}
-use Rattle.listing.specs.declared.Line.{Line}
-use Rattle.listing.specs.declared.Line.the-variants.{Read, Unread}
-use Rattle.listing.specs.Text.{bytes, before, parts, words, digits, valueFrom, numberOf, hallOf, kindIn, editOf, lineOf, decimalTo, said, next, report, ofLines, listing}
+use Rattle.words.specs.declared.Line.{Line}
+use Rattle.words.specs.declared.Line.the-variants.{Read, Unread}
+use Rattle.words.specs.Text.{bytes, before, parts, words, digits, valueFrom, numberOf, hallOf, kindIn, editOf, lineOf, decimalTo, said, next, report, ofLines, listing}
 
 -- document 01's input and output
 pub example :
     listing (bytes "hall 4\ninsert 0 1 5\ninsert 0 2 5\ninsert 1 3 5\ninsert 2 3 5\ncheapen 2 3 5\n") ≡
     bytes "hall 4 scale 232792560\n2 0 1\n3 0 1\n4 0 2\n5 0 2\n6 8 0\nstop 0 score 0\nstop 1 score 116396280\nstop 2 score 116396280\nstop 3 score 0\n"
-unfolding bytes before parts digits valueFrom numberOf hallOf kindIn editOf lineOf decimalTo said next report ofLines listing sumTo joinTo listTo allTo same setOf count visits uses time least extend hops routes leastTime quickest ways through portion share used score validCosts uncrowded touched rule reply bookRefusal bookAfter bookAnswer
+unfolding bytes before parts digits valueFrom numberOf hallOf kindIn editOf lineOf decimalTo said next report ofLines listing sumTo joinTo listTo allTo same setOf count visits uses time least extend hops routes leastTime quickest ways through portion share used score validCosts uncrowded touched rule bookRefusal bookAfter bookAnswer
 example = refl
 
 -- a line alone, and what it is if it is an edit
@@ -57,5 +57,5 @@ pub lineFeeds :
     (listing (bytes "hall 1") ≡ bytes "hall 1 scale 232792560\nstop 0 score 0\n") × (listing (bytes "hall 1\n") ≡ listing (bytes "hall 1")) ×
     (listing (bytes "hall 2\n\nhall 1\ndelete 0 1\ninsert 1 0 5 \ninsert 0 2 5") ≡
     bytes "hall 2 scale 232792560\n2 unread\n3 unread\n4 7 0\n5 unread\n6 4 0\nstop 0 score 0\nstop 1 score 0\n")
-unfolding bytes before parts digits valueFrom numberOf hallOf kindIn editOf lineOf decimalTo said next report ofLines listing sumTo joinTo listTo allTo same setOf count visits uses time least extend hops routes leastTime quickest ways through portion share used score validCosts uncrowded touched rule reply bookRefusal bookAfter bookAnswer
+unfolding bytes before parts digits valueFrom numberOf hallOf kindIn editOf lineOf decimalTo said next report ofLines listing sumTo joinTo listTo allTo same setOf count visits uses time least extend hops routes leastTime quickest ways through portion share used score validCosts uncrowded touched rule bookRefusal bookAfter bookAnswer
 lineFeeds = (refl, refl, refl)

@@ -10,13 +10,18 @@ use Rattle.routes.proofs.Rows.{length-listTo, getD-listTo}
 use Rattle.bytes.specs.Bytes.{indexOf}
 use Rattle.book.specs.Hall.{Tables, scale, entry, filled, right}
 use Rattle.book.specs.Contract.{Audited}
-use Rattle.listing.specs.declared.Line.{Line}
-use Rattle.listing.specs.Text.{longest, parts, lines, words, lineOf, stopLine, said, report}
-use Rattle.listing.specs.Promise.{hallBytes, lineBytes, Printed, bookOf, Stepped}
-use Rattle.listing.proofs.Reading.{from as part, line-next, index-inside}
-use Rattle.listing.proofs.Printing.{Left, go-on, last}
-use Rattle.listing.proofs.Books.{own, next-audited}
-use Rattle.listing.proofs.Lengths.{said-short, few-stops}
+use Rattle.words.specs.declared.Line.{Line}
+use Rattle.words.specs.Text.{longest, parts, lines, words, lineOf, stopLine, said, report}
+use Rattle.print.specs.Promise.{hallBytes, lineBytes, Printed}
+use Rattle.listing.specs.Promise.{bookOf, Room, Stepped}
+use Rattle.words.proofs.Reading.{from as part, line-next, index-inside}
+use Rattle.print.proofs.Printing.{Left, go-on, last}
+use Rattle.print.proofs.Lengths.{said-short}
+use Rattle.listing.proofs.Books.{own, few-stops, next-audited}
+
+-- line i fits where it has room
+pub line-fits : {n : ℕ} {t : Tables} (s : Audited n t) (l : Line) {i at : ℕ} {out : List ℕ} → Room i at out → at + length (said i (bookOf n t) l) ≤ length out
+line-fits {n} {t} s l {i} r = omega (arith, r .space, said-short i (bookOf n t) l (r .count) (few-stops s))
 
 -- between two lines: line i begins at place `from` of the text, and the tables are those of the book before it
 pub record Going (n : ℕ) (text : List ℕ) (first : ℕ) (out₀ : List ℕ) (start : ℕ) (t₀ t : Tables) (out : List ℕ) (at i from : ℕ) : Type 0 where

@@ -12,10 +12,11 @@ use borrow.Author.Tests.{le-ltb, lt-ltb}
 use Rattle.bytes.specs.Bytes.{indexOf}
 use Rattle.book.specs.Hall.{mostStops, upTo}
 use Rattle.book.specs.Book.{noLinks}
+use Rattle.words.specs.Text.{longest, bytes, parts, lines, words, hallOf, hallLine, report, ofLines, listing}
+use Rattle.words.proofs.Reading.{line-first}
+use Rattle.print.specs.Promise.{Printed}
 use Rattle.listing.specs.declared.Listed.{Listed}
-use Rattle.listing.specs.Text.{longest, bytes, parts, lines, words, hallOf, hallLine, report, ofLines, listing}
-use Rattle.listing.specs.Promise.{room, Printed, wrote}
-use Rattle.listing.proofs.Reading.{line-first}
+use Rattle.listing.specs.Promise.{room, wrote}
 
 pub wrote-none : (input output : List ℕ) → length output < room → (record { fits = false; length = 0 }, output) ≡ wrote input output
 unfolding wrote

@@ -1,3 +1,2 @@
--- The definitions of hallscore, and what its functions promise.
-pub mod Text
+-- What hallscore's functions promise.
 pub mod Promise

@@ -1,39 +1,22 @@
--- What hallscore's functions promise: places in a text, what is printed, a line's step on the tables, and the whole. Assumes nothing.
+-- What hallscore's functions promise: the room of its output, a line's step on the tables, and the whole. Assumes nothing.
 use Prim.Native.Nat.{ℕ, _+_, _≤_}
 use mathlib.Core.Path.{_≡_}
 use mathlib.Core.Bool.{true, false, cond}
 use mathlib.Core.List.{List, _++_}
 use lib.Dec.{ltb}
 use lib.ListN.{length, drop}
-use lib.Seq.{sets}
 use Rattle.book.specs.Hall.{Tables, scale, filled}
 use Rattle.book.specs.Book.{Book}
-use Rattle.listing.specs.Text.{longest, said, next, listing}
-use Rattle.listing.specs.declared.Line.{Line}
+use Rattle.words.specs.Text.{longest, said, next, listing}
+use Rattle.words.specs.declared.Line.{Line}
+use Rattle.print.specs.Promise.{hallBytes, lineBytes, Printed}
 use Rattle.listing.specs.declared.Listed.{Listed}
-
--- the most bytes of a printed line, its line feed among them: `hall 64 scale 232792560`; `32769 unread`, longer than an edit's
--- `32769 11 64`; `stop 63 score ` and 20 digits
-abbrev pub hallBytes : ℕ
-hallBytes = 24
-
-abbrev pub lineBytes : ℕ
-lineBytes = 13
-
-abbrev pub stopBytes : ℕ
-stopBytes = 35
 
 -- room for the listing of any text. A text has at most 32,768 bytes, and the shortest line, an empty one, takes one of them, its line
 -- feed; so there are at most 32,769 lines after the first, the last without a line feed, and 64 scores:
 -- 24 + 32,769 × 13 + 64 × 35 = 428,261 bytes, rounded up
 abbrev pub room : ℕ
 room = 430000
-
--- the text is written into `out` from place `at` on, `end` is the place behind it, and all of it fits
-pub record Printed (text : List ℕ) (at : ℕ) (out : List ℕ) (end : ℕ) (out′ : List ℕ) : Type 0 where
-  pub behind : end ≡ at + length text
-  pub written : out′ ≡ sets out at text
-  pub inside : end ≤ length out
 
 -- the book with the costs of five tables of n stops
 abbrev pub bookOf : ℕ → Tables → Book

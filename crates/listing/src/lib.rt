@@ -1,11 +1,8 @@
 // hallscore's text in and text out.
-use book::Edit;
-use book::Kind;
 use book::limits::Hall;
+use words::read;
 
-mod print;
 mod run;
-mod words;
 
 ghost use mathlib.Core.Path.{_≡_};
 ghost use mathlib.Core.Bool.{true};
@@ -13,26 +10,9 @@ ghost use lib.ListN.{drop};
 ghost use mathlib.Core.List.{_++_};
 ghost use Rattle.book.specs.Hall.{mostStops, upTo};
 ghost use Rattle.book.specs.Book.{noLinks};
-ghost use Rattle.listing.specs.Text.{longest, lines, hallLine, report};
-ghost use Rattle.listing.specs.Promise.{room, Printed, Ready, wrote};
-
-// A line after the first: an edit, a delete's cost being 0, or one that is no edit.
-pub enum Line {
-    Read(Edit),
-    Unread,
-}
-
-// What a word is as a kind of edit.
-pub enum Named {
-    Known(Kind),
-    Unknown,
-}
-
-// What a word is as a number.
-pub enum Number {
-    Value(u64),
-    NotNumber,
-}
+ghost use Rattle.words.specs.Text.{longest, lines, hallLine, report};
+ghost use Rattle.print.specs.Promise.{Printed};
+ghost use Rattle.listing.specs.Promise.{room, Ready, wrote};
 
 // Whether the listing fits the lent output, and its length.
 pub struct Listed {
@@ -96,8 +76,8 @@ pub fn list(input: &[u8], output: &mut [u8]) -> Listed
             length: end,
         };
     }
-    let e = words::index_of(input, b'\n');
-    let n = words::hall_of(&input[..e]);
+    let e = read::index_of(input, b'\n');
+    let n = read::hall_of(&input[..e]);
     if !Hall::takes(n) {
         let end = print::put(b"no hall\n", output, 0);
         return Listed {

@@ -1,18 +1,18 @@
 // The lines of a text, one after another, on the tables of a hall.
-use super::print;
-use super::words;
-use crate::Line;
 use book::Edit;
 use edits::audited::edit_audited;
 use hall::empty_hall::empty_hall;
+use words::Line;
+use words::read;
 ghost use Prim.Native.Nat.{_+_, _*_, _≤_};
 ghost use lib.ListN.{length, getD, drop};
 ghost use Rattle.routes.specs.Route.{joinTo};
 ghost use Rattle.book.specs.Hall.{mostStops};
 ghost use Rattle.book.specs.Book.{noLinks};
 ghost use Rattle.book.specs.Contract.{these, found, left, Inside, Audited};
-ghost use Rattle.listing.specs.Text.{lines, words, lineOf, stopLine, report};
-ghost use Rattle.listing.specs.Promise.{stopBytes, Printed, bookOf, Room, Stepped, Ready};
+ghost use Rattle.words.specs.Text.{lines, words, lineOf, stopLine, report};
+ghost use Rattle.print.specs.Promise.{stopBytes, Printed};
+ghost use Rattle.listing.specs.Promise.{bookOf, Room, Stepped, Ready};
 
 // An edit, line i of the text.
 fn edit(
@@ -52,7 +52,7 @@ fn step(
     requires { ⌜ Room i at (now out) ⌝ }
     ensures { λ r. ⌜ Stepped n i (lineOf (words (now (line .entry)))) (found cost time ways share score) (left cost time ways share score) at (now (out .entry)) r (now (out .exit)) ⌝ }
 {
-    match words::line_of(line) {
+    match read::line_of(line) {
         Line::Unread => print::unread_line(i, out, at),
         Line::Read(e) => edit(i, e, n, out, at, cost, time, ways, share, score),
     }
@@ -94,7 +94,7 @@ fn run(
     let mut from = first;
     while from < text.len() {
         let rest = &text[from..];
-        let e = words::index_of(rest, b'\n');
+        let e = read::index_of(rest, b'\n');
         at = step(i, &rest[..e], n, out, at, cost, time, ways, share, score);
         i += 1;
         from = from + e + 1;

@@ -20,7 +20,8 @@ use Rattle.book.specs.Hall.{Tables, entry, filled, validCosts, uncrowded, right
 use Rattle.book.proofs.Tables.{entry-table}
 use Rattle.book.proofs.Filled.{right-filled, right-true}
 use Rattle.book.specs.Contract.{tables}
-use Rattle.tables.specs.Promise.{part, Parts, parts, rowOf, free, Shares, noShortcut, noneAbove, rowsPass, scoresPass, Worked}
+use Rattle.cells.specs.Promise.{Shares, noneAbove}
+use Rattle.tables.specs.Promise.{part, Parts, parts, rowOf, free, noShortcut, rowsPass, scoresPass, Worked}
 use Rattle.tables.proofs.Parts.{entry-part}
 use Rattle.book.proofs.Sizes.{Lengths}
 use Rattle.routes.proofs.Tests.{all-flat}

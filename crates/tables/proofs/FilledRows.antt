@@ -21,7 +21,8 @@ use Rattle.routes.proofs.Booleans.{bool-iff}
 use Rattle.routes.proofs.Rows.{length-listTo}
 use Rattle.row_check.specs.Promise.{isRow}
 use Rattle.row.specs.Promise.{Filled}
-use Rattle.tables.specs.Promise.{Starts, part, parts, rowOf, free, Square, FilledRow, FilledRows}
+use Rattle.cells.specs.Promise.{Starts}
+use Rattle.tables.specs.Promise.{part, parts, rowOf, free, Square, FilledRow, FilledRows}
 use Rattle.tables.proofs.Parts.{back, part-here, part-other}
 
 -- a part that is lent has n entries

@@ -1,9 +1,9 @@
 -- Laws of the parts of a table, each the row of one source. Assumes nothing.
 use Prim.Native.Nat.{ℕ, _+_, _-_, _*_, _<_, _≤_}
-use mathlib.Core.Path.{_≡_, refl, sym, _∙_, ap}
+use mathlib.Core.Path.{_≡_, sym, _∙_, ap}
 use mathlib.Core.Logic.{_≢_}
 use mathlib.Core.List.{List, _++_, append-assoc}
-use native.Mathlib.Nat.{suc-mul, mul-le-mul-left, mul-le-mul-right}
+use native.Mathlib.Nat.{suc-mul, mul-le-mul-right}
 use native.Mathlib.Decide.{decLt}
 use native.Mathlib.Omega.{arith}
 use lib.ListN.{length, getD, take, drop, length-append, length-drop, take-append-drop}
@@ -12,12 +12,8 @@ use Rattle.routes.specs.Route.{listTo}
 use Rattle.routes.proofs.Rows.{getD-listTo, listTo-of}
 use Rattle.book.specs.Hall.{table, entry}
 use Rattle.book.proofs.Tables.{length-table, entry-table, entry-ext, table-of}
-use Rattle.tables.specs.Promise.{Starts, part}
-
--- row s of n ends inside a table of at most 64 rows
-pub starts : (n s : ℕ) → s < n → n ≤ 64 → Starts n s (s * n)
-starts n s l h =
-    record { place = refl; ends = omega (arith, mul-le-mul-right n l, suc-mul s n); small = omega (arith, mul-le-mul-left n h, mul-le-mul-right 64 h) }
+use Rattle.cells.proofs.Starts.{starts}
+use Rattle.tables.specs.Promise.{part}
 
 -- the row before s ends where s begins
 row-gap : (n : ℕ) {u s : ℕ} → u < s → u * n + n ≤ s * n

@@ -15,7 +15,8 @@ use Rattle.routes.proofs.Bounds.{share-le}
 use Rattle.links.specs.Promise.{masked, AllLinks}
 use Rattle.book.specs.Hall.{entry, filled, validCosts, uncrowded}
 use Rattle.book.proofs.Tables.{length-table, entry-table}
-use Rattle.tables.specs.Promise.{parts, part, rowOf, free, Square, Shares, FilledRows, Worked}
+use Rattle.cells.specs.Promise.{Shares}
+use Rattle.tables.specs.Promise.{parts, part, rowOf, free, Square, FilledRows, Worked}
 use Rattle.tables.proofs.Parts.{table-of-parts, part-table}
 use Rattle.tables.proofs.Masked.{same-rowOf, same-free, free-ways, free-share, hall-flows, all-rows}
 

@@ -1,9 +1,9 @@
 -- What the work on tables promises, by rows of document 01's definitions. Assumes nothing.
-use Prim.Native.Nat.{ℕ, _+_, _*_, _^_, _<_, _≤_, _∣_}
+use Prim.Native.Nat.{ℕ, _*_, _^_, _<_, _≤_, _∣_}
 use mathlib.Core.Path.{_≡_}
 use mathlib.Core.Logic.{_≢_}
 use mathlib.Core.Bool.{Bool, true, cond, not, _&&_, _||_}
-use mathlib.Core.List.{List, _++_}
+use mathlib.Core.List.{List}
 use lib.Dec.{eqb, ltb, leb}
 use lib.ListN.{length, getD, take, drop}
 use Rattle.routes.specs.Route.{Costs, sumTo, listTo, allTo, has, leastTime, ways}
@@ -18,12 +18,6 @@ pub record Measure (m L : ℕ) : Type 0 where
   pub few : m ≤ 22
   pub fine : L ≤ 2 ^ 32
   pub whole : (k : ℕ) → 0 < k → k ≤ m → k ∣ L
-
--- the place r where row s of a table begins
-pub record Starts (n s r : ℕ) : Type 0 where
-  pub place : r ≡ s * n
-  pub ends : r + n ≤ n * n
-  pub small : n * n ≤ 4096
 
 -- the part of a table that belongs to source s
 abbrev pub part : ℕ → List ℕ → ℕ → List ℕ
@@ -86,23 +80,9 @@ pub record FilledAll (m L n : ℕ) (cost time ways share time′ ways′ share�
   pub counts : ways′ ≡ cond done (filled L n cost .ways) ways
   pub shares : share′ ≡ cond done (filled L n cost .share) share
 
--- a table of shares whose sums fit: a share is at most 62 × 2^32
-pub record Shares (n : ℕ) (share : List ℕ) : Type 0 where
-  pub most : n ≤ 64
-  pub square : length share ≡ n * n
-  pub small : (s v : ℕ) → s < n → v < n → entry n share s v < 2 ^ 38
-
--- the sums of the shares of each stop over the first k sources, in front of the rest of a list
-abbrev pub summed : (n k : ℕ) → (share sum : List ℕ) → List ℕ
-summed n k share sum = listTo n (λ v. sumTo k (λ s. entry n share s v)) ++ drop n sum
-
 -- no link is cheaper than the time between its ends
 abbrev pub noShortcut : (cost time : List ℕ) → Bool
 noShortcut cost time = allTo (length cost) (λ i. not (ltb 0 (getD cost i 0) && ltb (getD cost i 0) (getD time i 0)))
-
--- no entry is above the limit
-abbrev pub noneAbove : ℕ → List ℕ → Bool
-noneAbove limit l = allTo (length l) (λ i. leb (getD l i 0) limit)
 
 -- the parts of every source are its row over the links of the masks
 abbrev pub rowsPass : (m L n : ℕ) → (cost out time ways share : List ℕ) → Bool

@@ -1,8 +1,8 @@
 // All rows of a hall, or the tables as they were.
-use super::places;
 use super::rows;
-use super::snapshot;
 use book::limits::Hall;
+use cells::places;
+use cells::snapshot;
 use links::masks::all_links;
 ghost use mathlib.Core.Path.{_≡_};
 ghost use mathlib.Core.Bool.{true};

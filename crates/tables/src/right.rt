@@ -1,8 +1,8 @@
 // The audit without the tests of n and of the lengths.
-use super::costs;
-use super::places;
-use super::scores;
 use book::limits::Hall;
+use cells::costs;
+use cells::places;
+use cells::scores;
 use links::masks::useful_links;
 use row_check::check;
 ghost use mathlib.Core.Path.{_≡_};
@@ -13,7 +13,8 @@ ghost use Rattle.links.specs.Promise.{masked};
 ghost use Rattle.row_check.specs.Promise.{isRow};
 ghost use Rattle.book.specs.Hall.{sized, right as isRight};
 ghost use Rattle.book.specs.Contract.{these, found};
-ghost use Rattle.tables.specs.Promise.{part, Measure, Job, Square, Shares, noShortcut, rowsPass, scoresPass};
+ghost use Rattle.cells.specs.Promise.{Shares};
+ghost use Rattle.tables.specs.Promise.{part, Measure, Job, Square, noShortcut, rowsPass, scoresPass};
 
 // No link is cheaper than the time between its ends.
 fn no_shortcut(cost: &[u32], time: &[u32]) -> bool

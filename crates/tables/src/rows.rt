@@ -1,6 +1,6 @@
 // The rows of sources, each worked out inside its own part of the lent tables.
-use super::places;
 use book::limits::Hall;
+use cells::places;
 use row::fill;
 ghost use mathlib.Core.Path.{_≡_};
 ghost use mathlib.Core.Bool.{true};

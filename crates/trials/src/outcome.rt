@@ -4,9 +4,9 @@ use super::places::CELLS;
 use calls::answer::Answer;
 use calls::call::Call;
 use calls::call::WORK_OUT;
-use calls::make::Done;
-use calls::make::make;
 use calls::tables::Tables;
+use make_call::Done;
+use make_call::make;
 ghost use Prim.Native.Nat.{_≤_};
 
 // A call, with the table that it lends at an odd length, the cost table of a work out, and the image or

@@ -7,11 +7,11 @@ use lib.ListN.{length}
 use lib.Seq.{length-take-le}
 use Rattle.book.specs.Hall.{mostStops}
 use Rattle.book.proofs.Sizes.{stops}
-use Rattle.listing.specs.Text.{hallLine}
-use Rattle.listing.specs.Promise.{hallBytes}
-use Rattle.listing.proofs.Printing.{then}
+use Rattle.words.specs.Text.{hallLine}
+use Rattle.print.specs.Promise.{hallBytes}
+use Rattle.print.proofs.Printing.{then}
+use Rattle.print.proofs.Lengths.{head-short}
 use Rattle.listing.proofs.Books.{lengths-inside}
-use Rattle.listing.proofs.Lengths.{head-short}
 use borrow.Author.Needs.{needs}
 use Rattle.listing.proofs.hall.Statement.{statement}
 use Rattle.listing.proofs.hall.Tie as tie

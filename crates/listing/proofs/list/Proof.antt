@@ -6,8 +6,8 @@ use lib.ListN.{take}
 use lib.Seq.{length-take-le}
 use borrow.Author.Tests.{not-true, not-false}
 use Rattle.book.specs.Hall.{mostStops, upTo}
-use Rattle.listing.specs.Text.{bytes, words, hallOf, listing}
-use Rattle.listing.proofs.Reading.{index-within}
+use Rattle.words.specs.Text.{bytes, words, hallOf, listing}
+use Rattle.words.proofs.Reading.{index-within}
 use Rattle.listing.proofs.Whole.{wrote-none, wrote-printed, too-long, by-hall}
 use borrow.Author.Needs.{needs}
 use Rattle.listing.proofs.list.Statement.{statement}

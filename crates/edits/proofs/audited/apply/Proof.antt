@@ -4,9 +4,9 @@ use native.Mathlib.Omega.{arith}
 use borrow.Author.Tests.{not-true, not-false}
 use borrow.Author.Needs.{needs}
 use Rattle.book.specs.Contract.{tables}
-use Rattle.edits.proofs.Changes.{lengths}
-use Rattle.edits.proofs.Laws.{changes, touched-set}
-use Rattle.edits.proofs.Calls.{shares-applied, not-applied, applied}
+use Rattle.changes.proofs.Changes.{lengths}
+use Rattle.changes.proofs.Laws.{changes, touched-set}
+use Rattle.changes.proofs.Applying.{shares-applied, not-applied, applied}
 use Rattle.edits.proofs.audited.apply.Statement.{statement}
 use Rattle.edits.proofs.audited.apply.Tie as tie
 

@@ -3,7 +3,7 @@ use borrow.Author.Needs.{needs}
 use mathlib.Core.Path.{refl}
 use Rattle.book.specs.Call.{rule}
 use Rattle.routes.proofs.Booleans.{failed, held}
-use Rattle.book.proofs.Doors.{door-passed, door-refused, behind-door, quiet-done}
+use Rattle.book.proofs.Doors.{door-passed, door-refused, behind-door, accepted-done}
 use Rattle.hall.proofs.empty_hall.empty_hall.Statement.{statement}
 use Rattle.hall.proofs.empty_hall.empty_hall.Tie as tie
 
@@ -24,7 +24,7 @@ returns-2 c =
     let make-empty : tie.After-make-empty = search in let if1 : tie.Else1 = search in
     let passes : tie.After-passes = search in let door : tie.After-door = search in
     let inside = door-passed _ _ (door .door .ensures) (held (passes .passes .ensures) (if1 .if1 .left)) in
-    quiet-done _ _ _ refl (behind-door _ _ (λ s. refl) inside) (make-empty .make-empty .ensures)
+    accepted-done _ _ _ _ (behind-door _ _ (λ s. refl) inside) (make-empty .make-empty .ensures) refl
 
 pub empty-hall-spec : {M : Type 1} → statement M
 empty-hall-spec =

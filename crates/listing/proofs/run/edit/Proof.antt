@@ -1,8 +1,8 @@
 -- `run::edit` prints the answer of the edit, which is the book's.
 use borrow.Author.Needs.{needs}
-use Rattle.listing.specs.declared.Line.the-variants.{Read}
+use Rattle.words.specs.declared.Line.the-variants.{Read}
 use Rattle.listing.proofs.Books.{edit-left, edit-said}
-use Rattle.listing.proofs.Lengths.{line-fits}
+use Rattle.listing.proofs.Running.{line-fits}
 use Rattle.listing.proofs.run.edit.Statement.{statement}
 use Rattle.listing.proofs.run.edit.Tie as tie
 

@@ -5,9 +5,8 @@ use native.Mathlib.Omega.{arith}
 use lib.ListN.{length}
 use lib.Seq.{length-take-le}
 use Rattle.book.specs.Contract.{tables}
-use Rattle.listing.proofs.Reading.{from as part, index-within, index-inside}
-use Rattle.listing.proofs.Books.{lengths-audited}
-use Rattle.listing.proofs.Lengths.{few-stops}
+use Rattle.words.proofs.Reading.{from as part, index-within, index-inside}
+use Rattle.listing.proofs.Books.{few-stops, lengths-audited}
 use Rattle.listing.proofs.Running.{Going, advance, finish}
 use borrow.Author.Needs.{needs}
 use Rattle.listing.proofs.run.run.Statement.{statement}

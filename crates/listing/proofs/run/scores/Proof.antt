@@ -6,10 +6,10 @@ use native.Mathlib.Numerals.{add-one}
 use native.Mathlib.Omega.{arith}
 use lib.ListN.{length, getD}
 use Rattle.routes.specs.Route.{joinTo}
-use Rattle.listing.specs.Text.{stopLine}
-use Rattle.listing.specs.Promise.{stopBytes, Printed}
-use Rattle.listing.proofs.Printing.{then}
-use Rattle.listing.proofs.Lengths.{stop-short}
+use Rattle.words.specs.Text.{stopLine}
+use Rattle.print.specs.Promise.{stopBytes, Printed}
+use Rattle.print.proofs.Printing.{then}
+use Rattle.print.proofs.Lengths.{stop-short}
 use Rattle.listing.proofs.run.scores.Statement.{statement}
 use Rattle.listing.proofs.run.scores.Tie as tie
 

@@ -1,10 +1,10 @@
 -- `step` goes by what the line says; an unread line leaves the tables.
 use mathlib.Core.Path.{sym, _∙_}
 use borrow.Author.Needs.{needs}
-use Rattle.listing.specs.declared.Line.the-variants.{Unread}
-use Rattle.listing.specs.Text.{said, next}
+use Rattle.words.specs.declared.Line.the-variants.{Unread}
+use Rattle.words.specs.Text.{said, next}
 use Rattle.listing.proofs.Books.{own}
-use Rattle.listing.proofs.Lengths.{line-fits}
+use Rattle.listing.proofs.Running.{line-fits}
 use Rattle.listing.proofs.run.step.Statement.{statement}
 use Rattle.listing.proofs.run.step.Tie as tie
 

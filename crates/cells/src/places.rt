@@ -1,0 +1,43 @@
+// Where things stand in the lent tables, and whether the tables have their lengths.
+ghost use mathlib.Core.Path.{_≡_};
+ghost use Prim.Native.Nat.{_*_, _<_, _≤_};
+ghost use Rattle.book.specs.Hall.{sized as isSized};
+ghost use Rattle.book.specs.Contract.{found};
+ghost use Rattle.cells.specs.Promise.{Starts};
+
+// Where row s of a table begins.
+pub fn start(n: usize, s: usize) -> usize
+    requires { ⌜ (s < n) × (n ≤ 64) ⌝ }
+    ensures { λ r. ⌜ Starts n s r ⌝ }
+{
+    s * n
+}
+
+// The number of entries of a table.
+pub fn cells(n: usize) -> usize
+    requires { ⌜ n ≤ 64 ⌝ }
+    ensures { λ r. ⌜ (r ≡ n * n) × (r ≤ 4096) ⌝ }
+{
+    n * n
+}
+
+// Each of the five tables has its length.
+pub fn sized(
+    n: usize,
+    cost: &[u32],
+    time: &[u32],
+    ways: &[u32],
+    share: &[u64],
+    score: &[u64],
+) -> bool
+    requires { ⌜ n ≤ 64 ⌝ }
+    ensures { λ r. ⌜ r ≡ isSized n (found cost time ways share score) ⌝ }
+{
+    let square = cells(n);
+    let costs = cost.len() == square;
+    let times = time.len() == square;
+    let counts = ways.len() == square;
+    let shares = share.len() == square;
+    let scores = score.len() == n;
+    costs & (times & (counts & (shares & scores)))
+}

@@ -1,0 +1,54 @@
+-- What an edit of right tables asks to sum the scores, leaves and answers, once its rows were tried. Assumes nothing.
+use Prim.Native.Nat.{ℕ, _+_, _*_, _^_, _≤_}
+use mathlib.Core.Path.{_≡_, _∙_, ap}
+use mathlib.Core.Bool.{Bool, true, false, cond}
+use mathlib.Core.List.{List}
+use lib.Count.{ones}
+use lib.ListN.{length, set}
+use Rattle.routes.specs.Route.{setOf}
+use Rattle.routes.proofs.Bits.{ones-setOf}
+use Rattle.book.specs.Hall.{Tables, filled, touched}
+use Rattle.book.specs.Contract.{tables, ofRefusal, ofEdit}
+use Rattle.book.specs.declared.Refusal.the-variants.{Accepted, TooManyWays}
+use Rattle.cells.specs.Promise.{Shares, summed}
+use Rattle.tables.specs.Promise.{FilledAll}
+use Rattle.cells.proofs.Sums.{summed-whole}
+use Rattle.tables.proofs.Worked.{worked-shares, worked-scores}
+use Rattle.changes.specs.Promise.{Change, Applied}
+use Rattle.changes.proofs.Laws.{square′, valid′}
+
+-- the inner edit, once its rows were tried: what it asks to sum the scores, and what it leaves and answers
+module _ (m L n u v new : ℕ) (t : Tables) (h : Change m L n u v new (t .cost) (t .time) (t .ways) (t .share)) (fits : Bool) (cost′ times′ counts′ shares′ : List ℕ)
+    (tried : FilledAll m L n (set (t .cost) (u * n + v) new) (t .time) (t .ways) (t .share) times′ counts′ shares′ fits)
+    (costs : cost′ ≡ cond fits (set (t .cost) (u * n + v) new) (t .cost)) where
+  pub shares-applied : L ≤ 2 ^ 32 → fits ≡ true → Shares n shares′
+  shares-applied fine f =
+      worked-shares L n (set (t .cost) (u * n + v) new) shares′ (rw f at (tried .shares)) fine (h .most)
+      (square′ h) (valid′ h)
+
+  pub not-applied : fits ≡ false → Applied m L n u v new t (tables cost′ times′ counts′ shares′ (t .score)) (ofRefusal TooManyWays)
+  not-applied f = record {
+    left = rw (← tried .said, f) λ i. record {
+      cost = (rw f at costs) i;
+      time = (rw f at (tried .times)) i;
+      ways = (rw f at (tried .counts)) i;
+      share = (rw f at (tried .shares)) i;
+      score = t .score;
+    };
+    answered = rw (← tried .said, f);
+  }
+
+  pub applied : fits ≡ true → (sources : ℕ) → sources ≡ setOf n (touched n (t .cost) (set (t .cost) (u * n + v) new) u v) → (count : ℕ) → count ≡ ones sources →
+      length (t .score) ≡ n → (score′ : List ℕ) → score′ ≡ summed n n shares′ (t .score) →
+      Applied m L n u v new t (tables cost′ times′ counts′ shares′ score′) (ofEdit (record { refusal = Accepted; touched = sources; rows = count }))
+  unfolding filled
+  applied f sources e count o long score′ sums = record {
+    left = rw (← tried .said, f) λ i. record {
+      cost = (rw f at costs) i;
+      time = (rw f at (tried .times)) i;
+      ways = (rw f at (tried .counts)) i;
+      share = (rw f at (tried .shares)) i;
+      score = (sums ∙ summed-whole n shares′ (t .score) long ∙ worked-scores L n (set (t .cost) (u * n + v) new) shares′ (rw f at (tried .shares))) i;
+    };
+    answered = rw (← tried .said, f) λ i. ofEdit (record { refusal = Accepted; touched = e i; rows = (o ∙ ap ones e ∙ ones-setOf n _) i });
+  }

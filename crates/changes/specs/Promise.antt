@@ -1,0 +1,39 @@
+-- What the functions that apply an edit promise. Assumes nothing.
+use Prim.Native.Nat.{ℕ, _+_, _*_, _<_, _≤_}
+use mathlib.Core.Path.{_≡_}
+use mathlib.Core.Logic.{_≢_}
+use mathlib.Core.Bool.{Bool, true, cond}
+use mathlib.Core.List.{List}
+use lib.ListN.{length, set}
+use Rattle.links.specs.Promise.{masked}
+use Rattle.book.specs.Hall.{Tables, largestCost, entry, filled, validCosts, uncrowded, touched}
+use Rattle.book.specs.Call.{Answer, names}
+use Rattle.book.specs.Contract.{ofRefusal}
+use Rattle.book.specs.declared.Refusal.the-variants.{TooManyWays}
+use Rattle.tables.specs.Promise.{FilledRows, Worked}
+use Rattle.touch.specs.Promise.{Chosen}
+
+-- the tables of a hall without a crowded pair, and another cost for its link u to v, or none
+pub record Change (m L n u v new : ℕ) (cost times counts shares : List ℕ) : Type 0 where
+  pub most : n ≤ 64
+  pub square : length cost ≡ n * n
+  pub valid : validCosts n cost ≡ true
+  pub uncrowded : uncrowded m n cost ≡ true
+  pub worked : Worked L n cost times counts shares
+  pub from : u < n
+  pub to : v < n
+  pub apart : u ≢ v
+  pub fits : new ≤ largestCost
+  pub differs : entry n cost u v ≢ new
+
+-- the rows of a set are worked out over the chosen links, the others are as they were
+pub record Reworked (m L n : ℕ) (links : ℕ → ℕ → Bool) (all : Bool) (sources : ℕ) (cost times counts shares times′ counts′ shares′ : List ℕ) (crowded : Bool) : Type 0 where
+  pub out : List ℕ
+  pub chosen : Chosen n links all cost times out
+  pub filled : FilledRows m L (masked n cost out) n sources times counts shares times′ counts′ shares′ crowded
+
+-- the tables and the answer of the changed hall where it has no crowded pair, else the tables as they were and 11
+pub record Applied (m L n u v new : ℕ) (t t′ : Tables) (a : Answer) : Type 0 where
+  pub left : let cost′ : List ℕ = set (t .cost) (u * n + v) new in t′ ≡ cond (uncrowded m n cost′) (filled L n cost′) t
+  pub answered : let cost′ : List ℕ = set (t .cost) (u * n + v) new in
+      a ≡ cond (uncrowded m n cost′) (names n (touched n (t .cost) cost′ u v)) (ofRefusal TooManyWays)

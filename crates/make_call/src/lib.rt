@@ -1,0 +1,157 @@
+// Makes a call, on the parts of tables by value that a hall has.
+use calls::answer::Answer;
+use calls::answer::of_edit;
+use calls::answer::of_refusal;
+use calls::answer::of_write;
+use calls::call::AUDIT;
+use calls::call::CHEAPEN;
+use calls::call::Call;
+use calls::call::DELETE;
+use calls::call::EMPTY_HALL;
+use calls::call::IMAGE_READ;
+use calls::call::IMAGE_WRITE;
+use calls::call::INSERT;
+use calls::call::WORK_OUT;
+use calls::call::edit_of;
+use calls::lengths::single;
+use calls::lengths::square;
+use calls::tables::CELLS;
+use calls::tables::STOPS;
+use calls::tables::Tables;
+use edits::edit::edit;
+use hall::audit::audit;
+use hall::empty_hall::empty_hall;
+use hall::work_out::work_out;
+use image_form::image_check::image_check;
+use images::image_read::image_read;
+use images::image_write::image_write;
+ghost use mathlib.Core.Path.{_≡_};
+ghost use Rattle.book.specs.Call.{number, imageCheck};
+ghost use Rattle.make_call.specs.Room.{Room};
+
+// What a call answered, and the tables that it left.
+pub struct Done {
+    pub answer: Answer,
+    pub tables: Tables,
+}
+
+// An image check, which takes no tables.
+pub fn check(image: &[u8], n: u64) -> Answer
+    ensures { λ a. ⌜ a .refusal ≡ number (imageCheck n (now (image .entry))) ⌝ }
+{
+    of_refusal(image_check(image, n))
+}
+
+// On lent tables. An image read and an image check take the image, an image write the buffer.
+fn on_lent(
+    call: Call,
+    image: &[u8],
+    buffer: &mut [u8],
+    cost: &mut [u32],
+    time: &mut [u32],
+    ways: &mut [u32],
+    share: &mut [u64],
+    score: &mut [u64],
+) -> Answer {
+    let n = call.n;
+    let number = call.number;
+    match number {
+        EMPTY_HALL => of_refusal(empty_hall(n, cost, time, ways, share, score)),
+        WORK_OUT => of_refusal(work_out(n, cost, time, ways, share, score)),
+        AUDIT => of_refusal(audit(n, cost, time, ways, share, score)),
+        INSERT | CHEAPEN | DELETE => {
+            of_edit(edit(n, edit_of(call), cost, time, ways, share, score))
+        }
+        IMAGE_WRITE => of_write(image_write(n, cost, time, ways, share, score, buffer)),
+        IMAGE_READ => of_refusal(image_read(n, image, cost, time, ways, share, score)),
+        _ => check(image, n),
+    }
+}
+
+// On the parts of longer tables.
+fn on_parts(
+    call: Call,
+    stops: u64,
+    odd: u64,
+    image: &[u8],
+    buffer: &mut [u8],
+    cost: &mut [u32],
+    time: &mut [u32],
+    ways: &mut [u32],
+    share: &mut [u64],
+    score: &mut [u64],
+) -> Answer
+    requires { ⌜ Room (now cost) (now time) (now ways) (now share) (now score) ⌝ }
+{
+    let p = square(stops, odd, 1);
+    let q = square(stops, odd, 2);
+    let r = square(stops, odd, 3);
+    let s = square(stops, odd, 4);
+    let e = single(stops, odd);
+    on_lent(
+        call,
+        image,
+        buffer,
+        &mut cost[0..p],
+        &mut time[0..q],
+        &mut ways[0..r],
+        &mut share[0..s],
+        &mut score[0..e],
+    )
+}
+
+// The lengths of arrays are those of their types.
+fn on_arrays(
+    call: Call,
+    stops: u64,
+    odd: u64,
+    image: &[u8],
+    buffer: &mut [u8],
+    cost: &mut [u32; CELLS],
+    time: &mut [u32; CELLS],
+    ways: &mut [u32; CELLS],
+    share: &mut [u64; CELLS],
+    score: &mut [u64; STOPS],
+) -> Answer {
+    on_parts(
+        call,
+        stops,
+        odd,
+        image,
+        buffer,
+        cost,
+        time,
+        ways,
+        share,
+        score,
+    )
+}
+
+// On tables of a hall of so many stops, of which at most one is lent at an odd length.
+pub fn make(call: Call, stops: u64, odd: u64, image: &[u8], buffer: &mut [u8], t: Tables) -> Done {
+    let mut cost = t.cost;
+    let mut time = t.time;
+    let mut ways = t.ways;
+    let mut share = t.share;
+    let mut score = t.score;
+    let answer = on_arrays(
+        call,
+        stops,
+        odd,
+        image,
+        buffer,
+        &mut cost,
+        &mut time,
+        &mut ways,
+        &mut share,
+        &mut score,
+    );
+    let tables = Tables {
+        cost,
+        time,
+        ways,
+        share,
+        score,
+    };
+    Done { answer, tables }
+}

@@ -1,0 +1,2 @@
+-- What printing promises.
+pub mod Promise

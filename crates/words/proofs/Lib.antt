@@ -1,0 +1,2 @@
+-- Laws of reading a text.
+pub mod Reading

@@ -1,0 +1,2 @@
+-- The definition of hallscore's text.
+pub mod Text
