@@ -1,5 +1,6 @@
 // Work out, audit and edit of the proved library beside Boost's and igraph's betweenness, in one process and on the same
-// graphs. Times are the least of many runs, taken in turn; ratios are theirs divided by ours.
+// graphs; and a raise beside the delete and the insert that said the same before there was one. Times are the least of many
+// runs, taken in turn; ratios are theirs, or those of the two edits, divided by ours.
 #include "hall.h"
 
 #include <boost/graph/adjacency_list.hpp>
@@ -38,6 +39,14 @@ struct Hall {
     hall_edited insert(uint64_t u, uint64_t v, uint64_t c) {
         hall_tables t = tables();
         return hall_insert(n, u, v, c, HALL_TABLES(t));
+    }
+    hall_edited cheapen(uint64_t u, uint64_t v, uint64_t c) {
+        hall_tables t = tables();
+        return hall_cheapen(n, u, v, c, HALL_TABLES(t));
+    }
+    hall_edited raise(uint64_t u, uint64_t v, uint64_t c) {
+        hall_tables t = tables();
+        return hall_raise(n, u, v, c, HALL_TABLES(t));
     }
     hall_edited remove(uint64_t u, uint64_t v) {
         hall_tables t = tables();
@@ -131,6 +140,40 @@ static size_t useful_links(const Hall &h) {
     return useful;
 }
 
+// Makes an edit, keeps its least time so far, and says whether it was accepted.
+static bool timed(double &least, const std::function<hall_edited()> &edit) {
+    hall_edited e = {};
+    least = std::min(least, time_of([&] { e = edit(); }));
+    return e.refusal == HALL_ACCEPTED;
+}
+
+// Microseconds of a raise, and of the delete and the insert that say the same in two edits.
+struct Slower {
+    double raise = 0, two = 0;
+};
+
+// Means over the links. Each is raised by half, at once and in two edits, and cheapened back after both; it counts with its least
+// times of ten rounds. A link with the largest cost is left out, and one whose delete would make too many ways.
+static Slower slower(Hall &h, const std::vector<Link> &links) {
+    Slower sum;
+    uint64_t count = 0;
+    for (const Link &l : links) {
+        uint64_t c = std::min<uint64_t>(l.cost + l.cost / 2 + 1, HALL_LARGEST_COST);
+        double raise = 1e300, gone = 1e300, back = 1e300, unused = 1e300;
+        auto restore = [&] { return h.cheapen(l.from, l.to, l.cost); };
+        bool taken = true;
+        for (int round = 0; taken && round < 10; round++)
+            taken = timed(raise, [&] { return h.raise(l.from, l.to, c); }) && timed(unused, restore) &&
+                    timed(gone, [&] { return h.remove(l.from, l.to); }) &&
+                    timed(back, [&] { return h.insert(l.from, l.to, c); }) && timed(unused, restore);
+        if (!taken) continue;
+        sum.raise += raise;
+        sum.two += gone + back;
+        count++;
+    }
+    return count ? Slower{sum.raise / count, sum.two / count} : Slower{};
+}
+
 static int measure(const std::string &name, Hall h, std::mt19937 &random) {
     if (h.work_out() != HALL_ACCEPTED) {
         std::printf("%-28s refused\n", name.c_str());
@@ -171,11 +214,13 @@ static int measure(const std::string &name, Hall h, std::mt19937 &random) {
         rows += out.rows + in.rows;
     }
     edit /= edits ? edits : 1;
-    same = same && h.audit() == HALL_ACCEPTED;
+    std::vector<uint32_t> costs = h.cost;
+    Slower s = slower(h, links);
+    same = same && h.cost == costs && h.audit() == HALL_ACCEPTED;
 
-    std::printf("%-28s %5zu %6zu | %8.1f %8.1f %8.1f %5.1f | %6.2f %6.2f | %6.2f | %6.2f %6.2f | %s\n", name.c_str(),
-                links_of(h).size(), useful_links(h), ours, audit, edit, edits ? double(rows) / edits : 0.0, theirs / ours,
-                others / ours, theirs / audit, theirs / edit, others / edit, same ? "agree" : "DIFFER");
+    std::printf("%-28s %5zu %6zu | %8.1f %8.1f %8.1f %5.1f %8.1f | %6.2f %6.2f | %6.2f | %6.2f %6.2f | %8.2f | %s\n", name.c_str(),
+                links_of(h).size(), useful_links(h), ours, audit, edit, edits ? double(rows) / edits : 0.0, s.raise, theirs / ours,
+                others / ours, theirs / audit, theirs / edit, others / edit, s.two / s.raise, same ? "agree" : "DIFFER");
     return same ? 0 : 1;
 }
 
@@ -226,10 +271,10 @@ static void write_links(const char *path, const Hall &h) {
 
 int main(int argc, char **argv) {
     std::mt19937 random(7);
-    std::printf("%-28s %5s %6s | %8s %8s %8s %5s | %6s %6s | %6s | %6s %6s |\n", "hall", "links", "useful", "work out",
-                "audit", "edit", "rows", "Boost", "igraph", "Boost", "Boost", "igraph");
-    std::printf("%-28s %5s %6s | %8s %8s %8s %5s | %13s | %6s | %13s |\n", "", "", "", "us", "us", "us", "", "/ work out",
-                "/audit", "/ edit");
+    std::printf("%-28s %5s %6s | %8s %8s %8s %5s %8s | %6s %6s | %6s | %6s %6s | %8s |\n", "hall", "links", "useful", "work out",
+                "audit", "edit", "rows", "raise", "Boost", "igraph", "Boost", "Boost", "igraph", "2 edits");
+    std::printf("%-28s %5s %6s | %8s %8s %8s %5s %8s | %13s | %6s | %13s | %8s |\n", "", "", "", "us", "us", "us", "", "us",
+                "/ work out", "/audit", "/ edit", "/ raise");
     int bad = 0;
     for (size_t links : {128, 256, 1024, 4032}) {
         Hall h = random_hall(64, links, random);

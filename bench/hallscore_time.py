@@ -27,9 +27,12 @@ def random_edits():
             yield f"insert {u} {v} {links[u, v]}\n"
             continue
         u, v = rng.choice(list(links))
-        if kind < 0.7 and links[u, v] > 1:
+        if kind < 0.55 and links[u, v] > 1:
             links[u, v] = rng.randint(1, links[u, v] - 1)
             yield f"cheapen {u} {v} {links[u, v]}\n"
+        elif kind < 0.7 and links[u, v] < 65535:
+            links[u, v] = rng.randint(links[u, v] + 1, 65535)
+            yield f"raise {u} {v} {links[u, v]}\n"
         else:
             del links[u, v]
             yield f"delete {u} {v}\n"

@@ -69,6 +69,11 @@ static inline hall_edited cheapen(const hall_tables *t, uint64_t from, uint64_t 
     return hall_cheapen(t->n, from, to, c, HALL_TABLES(*t));
 }
 
+static inline hall_edited raise_cost(const hall_tables *t, uint64_t from, uint64_t to, uint64_t c)
+{
+    return hall_raise(t->n, from, to, c, HALL_TABLES(*t));
+}
+
 static inline hall_edited delete_link(const hall_tables *t, uint64_t from, uint64_t to)
 {
     return hall_delete(t->n, from, to, HALL_TABLES(*t));
@@ -131,6 +136,11 @@ static int small_hall(void)
     print_call("image read", image_read(&copy, image, w.length));
     same = memcmp(hall.score, copy.score, 4 * sizeof *hall.score) == 0;
     printf("read back: %s\n", same ? "same scores" : "OTHER SCORES");
+
+    /* The belt from 2 to 3 is worn and runs slower. First refused: the cost is not above the present one. */
+    print_edit("raise 2 3 4", raise_cost(&hall, 2, 3, 4));
+    print_edit("raise 2 3 5", raise_cost(&hall, 2, 3, 5));
+    print_scores(&hall);
 
     /* A stray write is found by the call itself. */
     copy.ways[3] += 1;

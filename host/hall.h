@@ -97,8 +97,9 @@
  *                             entry above 65,535 or a diagonal entry other
  *                             than 0
  *    6  HALL_LINK_PRESENT     insert where a link is
- *    7  HALL_LINK_ABSENT      cheapen or delete where none is
- *    8  HALL_COST_WRONG_SIDE  cheapen to a cost not below the present one
+ *    7  HALL_LINK_ABSENT      cheapen, raise or delete where none is
+ *    8  HALL_COST_WRONG_SIDE  cheapen to a cost not below the present one, or
+ *                             raise to one not above it
  *    9  HALL_BAD_IMAGE        the bytes are no image of a hall of n stops
  *   10  HALL_SHORT_BUFFER     the image buffer is too short
  *   11  HALL_TOO_MANY_WAYS    the hall would have a pair with more than 22 ways
@@ -222,6 +223,15 @@ hall_edited hall_cheapen(uint64_t n, uint64_t from, uint64_t to, uint64_t c,
                          uint32_t *ways, size_t ways_length,
                          uint64_t *share, size_t share_length,
                          uint64_t *score, size_t score_length);
+
+/* Gives a link the higher cost c. Refusals 1, 2, 3, 4, 5, 7, 8, 11: the routes
+ * that are quickest then can be too many. */
+hall_edited hall_raise(uint64_t n, uint64_t from, uint64_t to, uint64_t c,
+                       uint32_t *cost, size_t cost_length,
+                       uint32_t *time, size_t time_length,
+                       uint32_t *ways, size_t ways_length,
+                       uint64_t *share, size_t share_length,
+                       uint64_t *score, size_t score_length);
 
 /* Takes a link out. Refusals 1, 2, 3, 4, 7, 11: the routes that are quickest
  * without it can be too many. */

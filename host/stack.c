@@ -23,6 +23,7 @@ static void work_out(void) { answer = hall_work_out(N, HALL_TABLES(t)); }
 static void audit(void) { answer = hall_audit(N, HALL_TABLES(t)); }
 static void insert(void) { answer = hall_insert(N, 0, 1, 10, HALL_TABLES(t)).refusal; }
 static void cheapen(void) { answer = hall_cheapen(N, 0, 1, 10, HALL_TABLES(t)).refusal; }
+static void raise_cost(void) { answer = hall_raise(N, 0, 1, 10, HALL_TABLES(t)).refusal; }
 static void delete_link(void) { answer = hall_delete(N, 0, 1, HALL_TABLES(t)).refusal; }
 static void image_read(void) { answer = hall_image_read(N, image, image_length, HALL_TABLES(t)); }
 static void image_check(void) { answer = hall_image_check(image, image_length, N); }
@@ -84,6 +85,7 @@ int main(void)
     good &= fits("work out", work_out, HALL_TOO_MANY_WAYS);
     lay(23, 9);
     good &= fits("work out", work_out, HALL_ACCEPTED);
+    good &= fits("raise", raise_cost, HALL_TOO_MANY_WAYS);
     good &= fits("delete", delete_link, HALL_TOO_MANY_WAYS);
     good &= fits("audit", audit, HALL_ACCEPTED);
     good &= fits("image write", image_write, HALL_ACCEPTED);

@@ -50,6 +50,7 @@ static void null_is_empty(void)
         HOLDS(hall_audit(n, NONE) == expected);
         HOLDS(hall_insert(n, 0, 1, 1, NONE).refusal == expected);
         HOLDS(hall_cheapen(n, 0, 1, 1, NONE).refusal == expected);
+        HOLDS(hall_raise(n, 0, 1, 1, NONE).refusal == expected);
         HOLDS(hall_delete(n, 0, 1, NONE).refusal == expected);
         HOLDS(hall_image_write(n, NONE, NULL, 0).refusal == expected);
         HOLDS(hall_image_read(n, NULL, 0, NONE) == expected);
@@ -76,7 +77,11 @@ static void names_fit(void)
     HOLDS(hall_insert(3, 2, 1, 7, HALL_TABLES(t)).refusal == HALL_LINK_PRESENT);
     HOLDS(hall_delete(3, 1, 2, HALL_TABLES(t)).refusal == HALL_LINK_ABSENT);
     HOLDS(hall_cheapen(3, 2, 1, 7, HALL_TABLES(t)).refusal == HALL_COST_WRONG_SIDE);
+    HOLDS(hall_raise(3, 2, 1, 7, HALL_TABLES(t)).refusal == HALL_COST_WRONG_SIDE);
+    HOLDS(hall_raise(3, 1, 2, 8, HALL_TABLES(t)).refusal == HALL_LINK_ABSENT);
     HOLDS(time[2 * 3 + 1] == 7 && time[1 * 3 + 2] == HALL_MARK);
+    e = hall_raise(3, 2, 1, 8, HALL_TABLES(t));
+    HOLDS(e.refusal == HALL_ACCEPTED && e.rows == 1 && e.touched == 4 && cost[2 * 3 + 1] == 8 && time[2 * 3 + 1] == 8);
     HOLDS(hall_image_write(3, HALL_TABLES(t), buffer, 11).refusal == HALL_SHORT_BUFFER);
     HOLDS(hall_image_write(3, HALL_TABLES(t), buffer, 12).length == 12);
     HOLDS(hall_image_check(buffer, 12, 3) == HALL_ACCEPTED);

@@ -7,7 +7,7 @@ use Rattle.book.specs.Hall.{Tables}
 use Rattle.book.specs.Call.{Ask, emptyHall, audit, workOut, edit, imageWrite, imageRead, Call, accepted, Answer, plain, Rule, rule, reply, refusal, answer, Done}
 use Rattle.book.specs.Book.{Book, bookRefusal, bookAnswer}
 use Rattle.book.specs.declared.Refusal.{Refusal}
-use Rattle.book.specs.declared.Refusal.the-variants.{Accepted, BadSize, BadLength, BadTables, BadStop, BadCost, LinkPresent, LinkAbsent, NotCheaper, BadImage, ShortBuffer, TooManyWays}
+use Rattle.book.specs.declared.Refusal.the-variants.{Accepted, BadSize, BadLength, BadTables, BadStop, BadCost, LinkPresent, LinkAbsent, CostWrongSide, BadImage, ShortBuffer, TooManyWays}
 
 -- an accepted call says so
 says-accepted : (n : ℕ) (ask : Ask) (cost : List ℕ) → rule n ask cost .says .refusal ≡ Accepted
@@ -29,7 +29,7 @@ reply-refusal BadStop x e = refl
 reply-refusal BadCost x e = refl
 reply-refusal LinkPresent x e = refl
 reply-refusal LinkAbsent x e = refl
-reply-refusal NotCheaper x e = refl
+reply-refusal CostWrongSide x e = refl
 reply-refusal BadImage x e = refl
 reply-refusal ShortBuffer x e = refl
 reply-refusal TooManyWays x e = refl

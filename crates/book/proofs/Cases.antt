@@ -1,4 +1,5 @@
--- Document 01's halls P1 to P8: one table of cases, and one theorem over the definitions that covers it. Assumes nothing.
+-- Document 01's halls P1 to P8 and halls with slower links: one table of cases, and one theorem over the definitions that covers it.
+-- Assumes nothing.
 use Prim.Native.Nat.{ℕ, _+_, _*_, _-_, _/_, _%_, _^_}
 use mathlib.Core.Path.{_≡_, refl}
 use mathlib.Core.Bool.{Bool, true, false, _&&_}
@@ -11,7 +12,7 @@ use Rattle.book.specs.Call.{Call, Ask, emptyHall, audit, workOut, edit, 
 use Rattle.book.specs.Book.{run, Step, kept, noLinks, bookRefusal, bookAfter, bookAnswer, bookAnswers}
 use Rattle.book.proofs.Sequence.{stepsOf}
 use Rattle.book.specs.declared.Kind.{Kind}
-use Rattle.book.specs.declared.Kind.the-variants.{Insert, Cheapen, Delete}
+use Rattle.book.specs.declared.Kind.the-variants.{Insert, Cheapen, Raise, Delete}
 
 -- document 01's numbers: the largest time, the bound of scores, the mark in 32 bits; 1 to 22 divide the scale, 23 does not
 pub numbers :
@@ -62,6 +63,10 @@ change kind u v cost = edit (record { kind = kind; u = u; v = v; cost = cost })
 abbrev pub diamond : List Ask
 diamond = change Insert 0 1 5 ∷ change Insert 0 2 5 ∷ change Insert 1 3 5 ∷ change Insert 2 3 5 ∷ change Cheapen 2 3 5 ∷ []
 
+-- a link of 5, and a bypass of 6 over stop 2
+abbrev pub bypass : List Ask
+bypass = change Insert 0 1 5 ∷ change Insert 0 2 3 ∷ change Insert 2 1 3 ∷ []
+
 abbrev pub cases : List Case
 cases =
     -- P1: the example
@@ -78,20 +83,44 @@ cases =
     case 2 (change Insert 0 1 65535 ∷ []) (0 ∷ 0 ∷ []) (0 ∷ 1 ∷ []) (0 ∷ 0 ∷ []) ∷
     case 2 (change Insert 0 1 65536 ∷ []) (0 ∷ 5 ∷ []) (0 ∷ 0 ∷ []) (0 ∷ 0 ∷ []) ∷
     -- P8: a cost of 0 is told before an absent link
-    case 2 (change Cheapen 0 1 0 ∷ []) (0 ∷ 5 ∷ []) (0 ∷ 0 ∷ []) (0 ∷ 0 ∷ []) ∷ []
+    case 2 (change Cheapen 0 1 0 ∷ []) (0 ∷ 5 ∷ []) (0 ∷ 0 ∷ []) (0 ∷ 0 ∷ []) ∷
+    -- a raise that loses every route of its link; then one of a link that no quickest route uses, which touches nothing
+    case 3 (bypass ++ change Raise 0 1 7 ∷ []) (0 ∷ 0 ∷ 0 ∷ 0 ∷ 0 ∷ []) (0 ∷ 1 ∷ 1 ∷ 1 ∷ 1 ∷ []) (0 ∷ 0 ∷ scale ∷ []) ∷
+    case 3 (bypass ++ change Raise 0 1 7 ∷ change Raise 0 1 9 ∷ []) (0 ∷ 0 ∷ 0 ∷ 0 ∷ 0 ∷ 0 ∷ []) (0 ∷ 1 ∷ 1 ∷ 1 ∷ 1 ∷ 0 ∷ []) (0 ∷ 0 ∷ scale ∷ []) ∷
+    -- raises that keep some: P2 raised back to the tie of P1; and P1 raised, which keeps the route from 2 to 3 and loses the one of 0
+    case 4 (diamond ++ change Cheapen 2 3 4 ∷ change Raise 2 3 5 ∷ []) (0 ∷ 0 ∷ 0 ∷ 0 ∷ 0 ∷ 8 ∷ 0 ∷ 0 ∷ []) (0 ∷ 1 ∷ 1 ∷ 2 ∷ 2 ∷ 0 ∷ 2 ∷ 2 ∷ []) (0 ∷ scale / 2 ∷ scale / 2 ∷ 0 ∷ []) ∷
+    case 4 (diamond ++ change Raise 2 3 6 ∷ []) (0 ∷ 0 ∷ 0 ∷ 0 ∷ 0 ∷ 8 ∷ 0 ∷ []) (0 ∷ 1 ∷ 1 ∷ 2 ∷ 2 ∷ 0 ∷ 2 ∷ []) (0 ∷ scale ∷ 0 ∷ 0 ∷ []) ∷
+    -- a tie before, from 0 to 3, and one after, from 2 to 3 directly and over 4
+    case 5 (diamond ++ change Insert 2 4 3 ∷ change Insert 4 3 3 ∷ change Raise 2 3 6 ∷ []) (0 ∷ 0 ∷ 0 ∷ 0 ∷ 0 ∷ 8 ∷ 0 ∷ 0 ∷ 0 ∷ [])
+    (0 ∷ 1 ∷ 1 ∷ 2 ∷ 2 ∷ 0 ∷ 2 ∷ 1 ∷ 2 ∷ []) (0 ∷ scale ∷ scale ∷ 0 ∷ scale / 2 ∷ []) ∷
+    -- its refusals: 4 before 5, 5 before 7; 8 at the present cost and below it; the largest cost, and one more
+    case 2 (change Raise 1 1 0 ∷ change Raise 0 1 0 ∷ change Raise 0 1 65536 ∷ change Raise 0 1 5 ∷ []) (0 ∷ 4 ∷ 5 ∷ 5 ∷ 7 ∷ []) (0 ∷ 0 ∷ 0 ∷ 0 ∷ 0 ∷ []) (0 ∷ 0 ∷ []) ∷
+    case 2 (change Insert 0 1 9 ∷ change Raise 0 1 9 ∷ change Raise 0 1 8 ∷ change Raise 0 1 65536 ∷ change Raise 0 1 65535 ∷ change Raise 0 1 65535 ∷ [])
+    (0 ∷ 0 ∷ 8 ∷ 8 ∷ 5 ∷ 0 ∷ 8 ∷ []) (0 ∷ 1 ∷ 0 ∷ 0 ∷ 0 ∷ 1 ∷ 0 ∷ []) (0 ∷ 0 ∷ []) ∷ []
 
--- the cost tables that an insert, a cheapen and a delete leave
+-- the cost tables that an insert, a cheapen, a raise and a delete leave
 pub costs-left :
     let left : List Ask → List ℕ = λ asks. run kept (stepsOf (calls (case 2 asks [] [] [])) (sevens 2)) (sevens 2) .cost in
     (left (change Insert 0 1 65535 ∷ []) ≡ 0 ∷ 65535 ∷ 0 ∷ 0 ∷ []) ×
     (left (change Insert 0 1 9 ∷ change Insert 1 0 9 ∷ change Cheapen 0 1 4 ∷ []) ≡ 0 ∷ 4 ∷ 9 ∷ 0 ∷ []) ×
+    (left (change Insert 0 1 9 ∷ change Insert 1 0 9 ∷ change Raise 1 0 12 ∷ []) ≡ 0 ∷ 9 ∷ 12 ∷ 0 ∷ []) ×
     (left (change Insert 0 1 9 ∷ change Insert 1 0 9 ∷ change Delete 1 0 9 ∷ []) ≡ 0 ∷ 9 ∷ 0 ∷ 0 ∷ [])
 unfolding sumTo joinTo listTo allTo same setOf count visits uses time least extend hops routes leastTime quickest ways through portion share used score filled sized validCosts uncrowded right touched rule refusal after answer run stepsOf
-costs-left = (refl, refl, refl)
+costs-left = (refl, refl, refl, refl)
 
-pub cases-hold : map holds cases ≡ replicate 8 true
+pub cases-hold : map holds cases ≡ replicate 15 true
 unfolding holds sumTo joinTo listTo allTo same setOf count visits uses time least extend hops routes leastTime quickest ways through portion share used score filled sized validCosts uncrowded right touched rule refusal after answer run stepsOf
 cases-hold = refl
+
+-- the sets of touched sources of raises in the book, a refused one among them, and the links that they leave
+pub raises-run :
+    let at : ℕ → List Ask → List Call = λ n asks. map (λ a. record { n = n; ask = a }) asks in
+    let sets : ℕ → List Ask → List ℕ = λ n asks. map (λ a. a .touched) (bookAnswers (at n asks) (noLinks n)) in
+    (sets 4 (diamond ++ change Raise 2 3 6 ∷ []) ≡ 1 ∷ 1 ∷ 3 ∷ 5 ∷ 0 ∷ 5 ∷ []) ×
+    (sets 3 (bypass ++ change Raise 2 1 2 ∷ change Raise 2 1 4 ∷ change Raise 0 1 7 ∷ []) ≡ 1 ∷ 1 ∷ 4 ∷ 0 ∷ 4 ∷ 1 ∷ []) ×
+    (run bookAfter (at 3 (bypass ++ change Raise 2 1 2 ∷ change Raise 2 1 4 ∷ [])) (noLinks 3) .links ≡ 0 ∷ 5 ∷ 3 ∷ 0 ∷ 0 ∷ 0 ∷ 0 ∷ 4 ∷ 0 ∷ [])
+unfolding sumTo joinTo listTo allTo same setOf count visits uses time least extend hops routes leastTime quickest ways through portion share used score filled sized validCosts uncrowded right touched rule bookRefusal bookAfter bookAnswer bookAnswers run
+raises-run = (refl, refl, refl)
 
 -- the book of P3's calls, and then of another n, a link that is there already and a cost table that is too short; of an empty hall
 -- after them; and of a work out after them

@@ -1,4 +1,4 @@
--- Halls of seven stops with exactly 22 ways of a pair, and with more: refusal 11 by work out, image read, insert and delete, and what
+-- Halls of seven stops with exactly 22 ways of a pair, and with more: refusal 11 by work out, image read and each kind of edit, and what
 -- is told before it, computed over the book, which demand 3 ties to the tables. lister_try writes the scores of `fewer` too.
 -- Assumes nothing.
 use Prim.Native.Nat.{ℕ, _-_}
@@ -14,7 +14,7 @@ use Rattle.book.specs.Book.{bookRefusal, bookAfter, bookAnswer, noLinks,
 use Rattle.book.proofs.Steps.{refusal-book}
 use Rattle.book.proofs.Cases.{change}
 use Rattle.book.specs.declared.Refusal.the-variants.{TooManyWays}
-use Rattle.book.specs.declared.Kind.the-variants.{Insert, Cheapen, Delete}
+use Rattle.book.specs.declared.Kind.the-variants.{Insert, Cheapen, Raise, Delete}
 
 -- from each stop to every later one a link as long as the links over all stops between
 abbrev pub dense : List ℕ
@@ -49,19 +49,24 @@ left asks = run bookAfter (calls asks) (noLinks 7) .links
 abbrev pub more : List Ask
 more = workOut dense ∷ workOut (1 ∷ drop 1 dense) ∷ imageRead denseImage ∷ imageRead otherKind ∷ audit ∷ []
 
--- exactly 22 ways from 0 to 6: accepted; the link 1 to 6 would make them 23, but 7 comes before 11
+-- exactly 22 ways from 0 to 6: accepted; the link 1 to 6 would make them 23, but 7 comes before 11; with a cost of 6 it carries none of
+-- them, and with 5 it would make them 23, but a raise to 5 is 8 first
 abbrev pub most : List Ask
-most = workOut fewer ∷ change Insert 1 6 5 ∷ change Cheapen 1 6 5 ∷ audit ∷ []
+most = workOut fewer ∷ change Insert 1 6 5 ∷ change Cheapen 1 6 5 ∷ audit ∷ change Insert 1 6 6 ∷ change Cheapen 1 6 5 ∷ change Raise 1 6 5 ∷ change Delete 1 6 0 ∷ []
 
 -- one way from 0 to 6: without its link there would be 31, and with a cost of 6 there would be 32, but 6 and 8 come before 11
 abbrev pub one : List Ask
 one = workOut quicker ∷ change Delete 0 6 0 ∷ change Insert 0 6 6 ∷ change Cheapen 0 6 6 ∷ audit ∷ []
 
+-- so a raise to 6 or 7 is 11; one from 4 to 5 leaves the one way, where a delete, and then an insert, would be 11
+abbrev pub slower : List Ask
+slower = workOut quicker ∷ change Raise 0 6 6 ∷ change Raise 0 6 7 ∷ change Cheapen 0 6 4 ∷ change Delete 0 6 0 ∷ change Raise 0 6 5 ∷ []
+
 pub crowded-told :
-    (told more ≡ 11 ∷ 5 ∷ 11 ∷ 9 ∷ 0 ∷ []) × (left more ≡ replicate 49 0) × (told most ≡ 0 ∷ 11 ∷ 7 ∷ 0 ∷ []) × (left most ≡ fewer) ×
-    (told one ≡ 0 ∷ 11 ∷ 6 ∷ 8 ∷ 0 ∷ []) × (left one ≡ quicker)
+    (told more ≡ 11 ∷ 5 ∷ 11 ∷ 9 ∷ 0 ∷ []) × (left more ≡ replicate 49 0) × (told most ≡ 0 ∷ 11 ∷ 7 ∷ 0 ∷ 0 ∷ 11 ∷ 8 ∷ 0 ∷ []) × (left most ≡ fewer) ×
+    (told one ≡ 0 ∷ 11 ∷ 6 ∷ 8 ∷ 0 ∷ []) × (left one ≡ quicker) × (told slower ≡ 0 ∷ 11 ∷ 11 ∷ 0 ∷ 11 ∷ 0 ∷ []) × (left slower ≡ quicker)
 unfolding sumTo joinTo listTo allTo count visits time least extend hops routes leastTime quickest ways validCosts uncrowded lowFirst field imageOf validRecord isImage costsOf rule bookRefusal bookAfter bookAnswer bookAnswers run
-crowded-told = (refl, refl, refl, refl, refl, refl)
+crowded-told = (refl, refl, refl, refl, refl, refl, refl, refl)
 
 -- the same of tables: the delete on those of the last hall
 pub crowded-delete : refusal (record { n = 7; ask = change Delete 0 6 0 }) (filled scale 7 quicker) ≡ TooManyWays

@@ -15,6 +15,7 @@ pub mod Audits
 pub mod Edits
 pub mod Sequence
 pub mod Calls
+pub mod Raises
 pub mod Answers
 pub mod Refused
 pub mod Bounded

@@ -10,9 +10,9 @@ use Rattle.routes.specs.Route.{sumTo, setOf}
 use Rattle.book.specs.Hall.{Tables, mostStops, largestCost, mostWays, scale, upTo, entry, filled, sized, validPair, validCosts, uncrowded, right, touched, imageOf, isImage, costsOf}
 use Rattle.book.specs.declared.Edit.{Edit}
 use Rattle.book.specs.declared.Kind.{Kind}
-use Rattle.book.specs.declared.Kind.the-variants.{Insert, Cheapen, Delete}
+use Rattle.book.specs.declared.Kind.the-variants.{Insert, Cheapen, Raise, Delete}
 use Rattle.book.specs.declared.Refusal.{Refusal}
-use Rattle.book.specs.declared.Refusal.the-variants.{Accepted, BadSize, BadLength, BadTables, BadStop, BadCost, LinkPresent, LinkAbsent, NotCheaper, BadImage, ShortBuffer, TooManyWays}
+use Rattle.book.specs.declared.Refusal.the-variants.{Accepted, BadSize, BadLength, BadTables, BadStop, BadCost, LinkPresent, LinkAbsent, CostWrongSide, BadImage, ShortBuffer, TooManyWays}
 
 -- document 01's number of each refusal, 0 for an accepted call
 abbrev pub number : Refusal → ℕ
@@ -24,7 +24,7 @@ number BadStop = 4
 number BadCost = 5
 number LinkPresent = 6
 number LinkAbsent = 7
-number NotCheaper = 8
+number CostWrongSide = 8
 number BadImage = 9
 number ShortBuffer = 10
 number TooManyWays = 11
@@ -49,10 +49,15 @@ pub record Call : Type 0 where
 abbrev pub need : Bool → Refusal → Refusal → Refusal
 need passes refusal next = cond passes next refusal
 
+-- 5, 7 and 8, of another cost c for a link; `side` says whether c lies on the side of the present cost that the kind wants
+abbrev pub newCostTests : (side : Bool) → (c present : ℕ) → Refusal → Refusal
+newCostTests side c present next = need (upTo largestCost c) BadCost (need (ltb 0 present) LinkAbsent (need side CostWrongSide next))
+
 -- 5 to 8, by an edit's kind, its cost and the present cost of its link
 abbrev pub costTests : Kind → ℕ → ℕ → Refusal → Refusal
 costTests Insert c present next = need (upTo largestCost c) BadCost (need (eqb present 0) LinkPresent next)
-costTests Cheapen c present next = need (upTo largestCost c) BadCost (need (ltb 0 present) LinkAbsent (need (ltb c present) NotCheaper next))
+costTests Cheapen c present next = newCostTests (ltb c present) c present next
+costTests Raise c present next = newCostTests (ltb present c) c present next
 costTests Delete c present next = need (ltb 0 present) LinkAbsent next
 
 -- 4 to 8, by an edit and the present costs
@@ -67,6 +72,7 @@ waysTest n cost = need (uncrowded mostWays n cost) TooManyWays Accepted
 abbrev pub costSet : Kind → ℕ → ℕ
 costSet Insert c = c
 costSet Cheapen c = c
+costSet Raise c = c
 costSet Delete c = 0
 
 -- the cost table with that one entry set

@@ -13,7 +13,7 @@ pub enum Refusal {
     BadCost,
     LinkPresent,
     LinkAbsent,
-    NotCheaper,
+    CostWrongSide,
     BadImage,
     ShortBuffer,
     TooManyWays,
@@ -23,6 +23,7 @@ pub enum Refusal {
 pub enum Kind {
     Insert,
     Cheapen,
+    Raise,
     Delete,
 }
 

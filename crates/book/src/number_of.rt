@@ -15,7 +15,7 @@ pub fn number_of(r: Refusal) -> u32
         Refusal::BadCost => 5,
         Refusal::LinkPresent => 6,
         Refusal::LinkAbsent => 7,
-        Refusal::NotCheaper => 8,
+        Refusal::CostWrongSide => 8,
         Refusal::BadImage => 9,
         Refusal::ShortBuffer => 10,
         Refusal::TooManyWays => 11,

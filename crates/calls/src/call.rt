@@ -2,6 +2,7 @@
 use book::Edit;
 use book::Kind;
 ghost use mathlib.Core.Path.{_≡_};
+ghost use Rattle.calls.specs.Kinds.{kindOf};
 
 // The calls, by number.
 pub const EMPTY_HALL: u64 = 0;
@@ -14,16 +15,18 @@ pub const INSERT: u64 = 3;
 
 pub const CHEAPEN: u64 = 4;
 
-pub const DELETE: u64 = 5;
+pub const RAISE: u64 = 5;
 
-pub const IMAGE_WRITE: u64 = 6;
+pub const DELETE: u64 = 6;
 
-pub const IMAGE_READ: u64 = 7;
+pub const IMAGE_WRITE: u64 = 7;
 
-pub const IMAGE_CHECK: u64 = 8;
+pub const IMAGE_READ: u64 = 8;
+
+pub const IMAGE_CHECK: u64 = 9;
 
 // How many there are.
-pub const CALLS: usize = 9;
+pub const CALLS: usize = 10;
 
 // Only an edit reads u, v and the cost, and a delete not the cost.
 pub struct Call {
@@ -48,11 +51,12 @@ pub fn plain(number: u64, n: u64) -> Call
 }
 
 fn kind_of(number: u64) -> Kind
-    ensures { λ r. ⌜ (number ≡ 3 → r ≡ Kind.Insert) × (number ≡ 4 → r ≡ Kind.Cheapen) × (number ≡ 5 → r ≡ Kind.Delete) ⌝ }
+    ensures { λ r. ⌜ r ≡ kindOf number ⌝ }
 {
     match number {
         INSERT => Kind::Insert,
         CHEAPEN => Kind::Cheapen,
+        RAISE => Kind::Raise,
         _ => Kind::Delete,
     }
 }
@@ -60,7 +64,7 @@ fn kind_of(number: u64) -> Kind
 // The edit that a call asks for.
 pub fn edit_of(call: Call) -> Edit
     ensures { λ r. ⌜ (r .u ≡ call .u) × (r .v ≡ call .v) × (r .cost ≡ call .cost) ⌝ }
-    ensures { λ r. ⌜ (call .number ≡ 3 → r .kind ≡ Kind.Insert) × (call .number ≡ 4 → r .kind ≡ Kind.Cheapen) × (call .number ≡ 5 → r .kind ≡ Kind.Delete) ⌝ }
+    ensures { λ r. ⌜ r .kind ≡ kindOf (call .number) ⌝ }
 {
     let kind = kind_of(call.number);
     Edit {

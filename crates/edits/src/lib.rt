@@ -1,3 +1,3 @@
-// The edit of a link: insert, cheapen and delete.
+// The edit of a link: insert, cheapen, raise and delete.
 pub mod audited;
 pub mod edit;

@@ -13,7 +13,7 @@ use images::image_write::image_write;
 ghost use mathlib.Core.Path.{_≡_};
 ghost use Rattle.book.specs.Call.{emptyHall, workOut, audit, edit, imageWrite, imageRead, number, imageCheck};
 ghost use Rattle.book.specs.Contract.{found, left, leftBeside};
-ghost use Rattle.book.specs.declared.Kind.the-variants.{Insert, Cheapen, Delete};
+ghost use Rattle.book.specs.declared.Kind.the-variants.{Insert, Cheapen, Raise, Delete};
 ghost use Rattle.host.specs.Promise.{Handed, ofNumber, ofEdited, ofWritten};
 
 // An edit's refusal, the number of touched sources, and their set.
@@ -135,6 +135,23 @@ pub extern "C" fn hall_cheapen(
     ensures { λ r. ⌜ Handed (record { n = n; ask = edit (record { kind = Cheapen; u = u; v = v; cost = c }) }) (found cost time ways share score) (left cost time ways share score) (ofEdited r) ⌝ }
 {
     edited(n, Kind::Cheapen, u, v, c, cost, time, ways, share, score)
+}
+
+#[no_mangle]
+pub extern "C" fn hall_raise(
+    n: u64,
+    u: u64,
+    v: u64,
+    c: u64,
+    cost: &mut [u32],
+    time: &mut [u32],
+    ways: &mut [u32],
+    share: &mut [u64],
+    score: &mut [u64],
+) -> HallEdited
+    ensures { λ r. ⌜ Handed (record { n = n; ask = edit (record { kind = Raise; u = u; v = v; cost = c }) }) (found cost time ways share score) (left cost time ways share score) (ofEdited r) ⌝ }
+{
+    edited(n, Kind::Raise, u, v, c, cost, time, ways, share, score)
 }
 
 #[no_mangle]

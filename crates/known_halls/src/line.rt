@@ -11,6 +11,8 @@ use super::text::end;
 use super::text::field;
 use super::text::first;
 use super::text::say;
+use calls::call::CHEAPEN;
+use calls::call::RAISE;
 use calls::tables::Tables;
 use calls::tables::filled;
 use calls::tables::link;
@@ -48,6 +50,21 @@ fn made() -> Tables {
     let empty = report::empty_hall(b"inserts: empty hall ", 64, filled(0, 0));
     reached(64, insert_links(no_inserts(empty)), t);
     t
+}
+
+// An edit of the link in the middle; says whether the tables are t then.
+fn edited(name: &[u8], number: u64, cost: u64, before: Tables, t: Tables) -> Tables {
+    let left = report::edit(name, number, 64, 31, 32, cost, before);
+    report::same(left, t);
+    end();
+    left
+}
+
+// The link in the middle is run faster, and then slower until it costs what it did.
+fn slowed(t: Tables) {
+    let same = edited(b"raise 31 32 to 65535: ", RAISE, 65535, t, t);
+    let faster = edited(b"cheapen 31 32 to 1: ", CHEAPEN, 1, same, t);
+    edited(b"raise 31 32 to 65535: ", RAISE, 65535, faster, t);
 }
 
 fn records(image: &[u8]) {
@@ -97,6 +114,7 @@ pub fn longest() {
     let short: &mut [u8] = &mut bytes259;
     say(b"a one-way line, 64 stops\n");
     let t = made();
+    slowed(t);
     stored(t, long, exact, short);
     checked(exact, long);
     loaded(exact, t);

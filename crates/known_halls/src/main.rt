@@ -13,6 +13,7 @@ fn main() {
     ways::most();
     ways::one_more();
     ways::beside_a_link();
+    ways::worn_link();
     line::longest();
     sizes::too_large();
     smallest::no_links();

@@ -7,6 +7,7 @@ use super::text::say;
 use calls::call::CHEAPEN;
 use calls::call::DELETE;
 use calls::call::INSERT;
+use calls::call::RAISE;
 use calls::tables::Tables;
 use calls::tables::filled;
 
@@ -23,7 +24,9 @@ fn edits(t: Tables) -> Tables {
     end();
     let cheaper = report::edit(b"cheapen 0 1: ", CHEAPEN, 65, 0, 1, 5, more);
     end();
-    let left = report::edit(b"delete 0 1: ", DELETE, 65, 0, 1, 0, cheaper);
+    let dearer = report::edit(b"raise 0 1: ", RAISE, 65, 0, 1, 5, cheaper);
+    end();
+    let left = report::edit(b"delete 0 1: ", DELETE, 65, 0, 1, 0, dearer);
     end();
     left
 }

@@ -8,6 +8,7 @@ use super::text::end;
 use super::text::say;
 use calls::call::DELETE;
 use calls::call::INSERT;
+use calls::call::RAISE;
 use calls::tables::Tables;
 use calls::tables::filled;
 use calls::tables::link;
@@ -127,4 +128,31 @@ fn closed_with_another(t: Tables) {
 pub fn beside_a_link() {
     say(b"23 ways of time 10 beside a link of 9, 25 stops\n");
     closed_with_another(closed(beside()));
+}
+
+// Raises the link from the first stop of 24 to the last; says whether the tables are t then.
+fn raised(name: &[u8], cost: u64, t: Tables) -> Tables {
+    let left = report::edit(name, RAISE, 24, 0, 23, cost, t);
+    report::same(left, t);
+    report::audit(24, left);
+    end();
+    left
+}
+
+// Raises that are refused: to the present cost, past the largest, and to the time of the 22 ways.
+fn not_raised(t: Tables) -> Tables {
+    let equal = raised(b"raise 0 23 to 9: ", 9, t);
+    let large = raised(b"raise 0 23 to 65536: ", 65536, equal);
+    raised(b"raise 0 23 to 10: ", 10, large)
+}
+
+pub fn worn_link() {
+    say(b"22 ways of time 10 beside a link of 9 that is raised, 24 stops\n");
+    let t = report::worked(24, link(24, 0, 23, 9, fan(24, 23)));
+    report::pair(23, t);
+    let slower = raised(b"raise 0 23 to 11: ", 11, not_raised(t));
+    report::pair(23, slower);
+    report::middle(23, 23, slower);
+    let unused = raised(b"raise 0 23 to 65535: ", 65535, slower);
+    report::pair(23, unused);
 }

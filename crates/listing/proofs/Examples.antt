@@ -1,4 +1,4 @@
--- Document 01's example of hallscore, and lines at the edge of its rules, computed. Assumes nothing.
+-- Document 01's example of hallscore, one with raises, and lines at the edge of its rules, computed. Assumes nothing.
 use Prim.Native.Nat.{ℕ}
 use Prim.Native.String.{String}
 use mathlib.Core.Path.{_≡_, refl}
@@ -9,7 +9,7 @@ use Rattle.book.specs.Hall.{validCosts, uncrowded, touched}
 use Rattle.book.specs.Call.{rule}
 use Rattle.book.specs.Book.{bookRefusal, bookAfter, bookAnswer}
 use Rattle.book.specs.declared.Kind.{Kind}
-use Rattle.book.specs.declared.Kind.the-variants.{Insert, Cheapen, Delete}
+use Rattle.book.specs.declared.Kind.the-variants.{Insert, Cheapen, Raise, Delete}
 use Rattle.words.specs.declared.Line.{Line}
 use Rattle.words.specs.declared.Line.the-variants.{Read, Unread}
 use Rattle.words.specs.Text.{bytes, before, parts, words, digits, valueFrom, numberOf, hallOf, kindIn, editOf, lineOf, decimalTo, said, next, report, ofLines, listing}
@@ -21,6 +21,13 @@ pub example :
 unfolding bytes before parts digits valueFrom numberOf hallOf kindIn editOf lineOf decimalTo said next report ofLines listing sumTo joinTo listTo allTo same setOf count visits uses time least extend hops routes leastTime quickest ways through portion share used score validCosts uncrowded touched rule bookRefusal bookAfter bookAnswer
 example = refl
 
+-- a worn link: raised to a tie, refused at its present cost, raised past it, and a link that is not there
+pub raises :
+    listing (bytes "hall 4\ninsert 0 1 5\ninsert 0 2 5\ninsert 1 3 5\ninsert 2 3 4\nraise 2 3 5\nraise 2 3 5\nraise 2 3 6\nraise 3 2 7") ≡
+    bytes "hall 4 scale 232792560\n2 0 1\n3 0 1\n4 0 2\n5 0 2\n6 0 2\n7 8 0\n8 0 2\n9 7 0\nstop 0 score 0\nstop 1 score 232792560\nstop 2 score 0\nstop 3 score 0\n"
+unfolding bytes before parts digits valueFrom numberOf hallOf kindIn editOf lineOf decimalTo said next report ofLines listing sumTo joinTo listTo allTo same setOf count visits uses time least extend hops routes leastTime quickest ways through portion share used score validCosts uncrowded touched rule bookRefusal bookAfter bookAnswer
+raises = refl
+
 -- a line alone, and what it is if it is an edit
 abbrev pub read : String → Line
 read line = lineOf (words (bytes line))
@@ -30,8 +37,8 @@ edit k u v c = Read (record { kind = k; u = u; v = v; cost = c })
 
 -- 10 digits, leading zeros among them, and the largest number are read
 pub readLines :
-    map read ("insert 0 1 5" ∷ "cheapen 0000000002 4294967295 0" ∷ "delete 70 1" ∷ []) ≡
-    edit Insert 0 1 5 ∷ edit Cheapen 2 4294967295 0 ∷ edit Delete 70 1 0 ∷ []
+    map read ("insert 0 1 5" ∷ "cheapen 0000000002 4294967295 0" ∷ "raise 4294967295 0 0000065536" ∷ "delete 70 1" ∷ []) ≡
+    edit Insert 0 1 5 ∷ edit Cheapen 2 4294967295 0 ∷ edit Raise 4294967295 0 65536 ∷ edit Delete 70 1 0 ∷ []
 unfolding bytes before parts digits valueFrom numberOf kindIn editOf lineOf same
 readLines = refl
 
@@ -40,8 +47,8 @@ readLines = refl
 pub unreadLines :
     map read
     (" insert 0 1 5" ∷ "insert  0 1 5" ∷ "insert 0 1 5 " ∷ "insert\t0 1 5" ∷ "insert 0 1 5\r" ∷ "insert 0 1" ∷ "delete 0 1 5" ∷ "insert 00000000001 0 5" ∷
-    "insert 0 1 4294967296" ∷ "insert +0 1 5" ∷ "Insert 0 1 5" ∷ "hall 4" ∷ "" ∷ []) ≡
-    replicate 13 Unread
+    "insert 0 1 4294967296" ∷ "insert +0 1 5" ∷ "Insert 0 1 5" ∷ "hall 4" ∷ "" ∷ "raise 0 1" ∷ "raise 0 1 5 " ∷ "raise 0 1 5 6" ∷ "raises 0 1 5" ∷ []) ≡
+    replicate 17 Unread
 unfolding bytes before parts digits valueFrom numberOf kindIn editOf lineOf same
 unreadLines = refl
 

@@ -11,6 +11,7 @@ use calls::call::EMPTY_HALL;
 use calls::call::IMAGE_READ;
 use calls::call::IMAGE_WRITE;
 use calls::call::INSERT;
+use calls::call::RAISE;
 use calls::call::WORK_OUT;
 use calls::call::edit_of;
 use calls::lengths::single;
@@ -59,7 +60,7 @@ fn on_lent(
         EMPTY_HALL => of_refusal(empty_hall(n, cost, time, ways, share, score)),
         WORK_OUT => of_refusal(work_out(n, cost, time, ways, share, score)),
         AUDIT => of_refusal(audit(n, cost, time, ways, share, score)),
-        INSERT | CHEAPEN | DELETE => {
+        INSERT | CHEAPEN | RAISE | DELETE => {
             of_edit(edit(n, edit_of(call), cost, time, ways, share, score))
         }
         IMAGE_WRITE => of_write(image_write(n, cost, time, ways, share, score, buffer)),

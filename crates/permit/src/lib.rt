@@ -8,8 +8,8 @@ ghost use mathlib.Core.Path.{_≡_};
 ghost use Prim.Native.Nat.{_*_, _≤_};
 ghost use lib.ListN.{length};
 ghost use Rattle.book.specs.Hall.{largestCost, upTo, validPair};
-ghost use Rattle.book.specs.Call.{costTests, editTests, costSet};
-ghost use Rattle.book.specs.declared.Kind.the-variants.{Insert, Cheapen, Delete};
+ghost use Rattle.book.specs.Call.{newCostTests, costTests, editTests, costSet};
+ghost use Rattle.book.specs.declared.Kind.the-variants.{Insert, Cheapen, Raise, Delete};
 ghost use Rattle.book.specs.declared.Refusal.the-variants.{Accepted};
 
 // Two different stops.
@@ -47,8 +47,9 @@ fn permit_insert(c: u64, present: u32) -> Refusal
     Refusal::Accepted
 }
 
-fn permit_cheapen(c: u64, present: u32) -> Refusal
-    ensures { λ r. ⌜ r ≡ costTests Cheapen c present Accepted ⌝ }
+// Another cost for a link. `side` says whether it lies on the side of the present one that the kind wants.
+fn permit_new_cost(side: bool, c: u64, present: u32) -> Refusal
+    ensures { λ r. ⌜ r ≡ newCostTests side c present Accepted ⌝ }
 {
     if !is_cost(c) {
         return Refusal::BadCost;
@@ -56,10 +57,22 @@ fn permit_cheapen(c: u64, present: u32) -> Refusal
     if present == 0 {
         return Refusal::LinkAbsent;
     }
-    if present as u64 <= c {
-        return Refusal::NotCheaper;
+    if !side {
+        return Refusal::CostWrongSide;
     }
     Refusal::Accepted
+}
+
+fn permit_cheapen(c: u64, present: u32) -> Refusal
+    ensures { λ r. ⌜ r ≡ costTests Cheapen c present Accepted ⌝ }
+{
+    permit_new_cost(c < present as u64, c, present)
+}
+
+fn permit_raise(c: u64, present: u32) -> Refusal
+    ensures { λ r. ⌜ r ≡ costTests Raise c present Accepted ⌝ }
+{
+    permit_new_cost((present as u64) < c, c, present)
 }
 
 fn permit_delete(c: u64, present: u32) -> Refusal
@@ -88,6 +101,7 @@ pub fn permit(n: u64, e: Edit, cost: &[u32]) -> Refusal
     match kind {
         Kind::Insert => permit_insert(c, present),
         Kind::Cheapen => permit_cheapen(c, present),
+        Kind::Raise => permit_raise(c, present),
         Kind::Delete => permit_delete(c, present),
     }
 }
@@ -102,6 +116,7 @@ pub fn cost_set(e: Edit) -> u32
     match kind {
         Kind::Insert => c as u32,
         Kind::Cheapen => c as u32,
+        Kind::Raise => c as u32,
         Kind::Delete => 0,
     }
 }

@@ -12,7 +12,7 @@ use Rattle.book.specs.Book.{Book, bookRefusal, bookAnswer}
 use Rattle.book.proofs.Answers.{reply-either}
 use Rattle.book.specs.declared.Edit.{Edit}
 use Rattle.book.specs.declared.Refusal.{Refusal}
-use Rattle.book.specs.declared.Refusal.the-variants.{Accepted, BadSize, BadLength, BadTables, BadStop, BadCost, LinkPresent, LinkAbsent, NotCheaper, BadImage, ShortBuffer, TooManyWays}
+use Rattle.book.specs.declared.Refusal.the-variants.{Accepted, BadSize, BadLength, BadTables, BadStop, BadCost, LinkPresent, LinkAbsent, CostWrongSide, BadImage, ShortBuffer, TooManyWays}
 use Rattle.words.specs.declared.Line.{Line}
 use Rattle.words.specs.declared.Line.the-variants.{Read, Unread}
 use Rattle.words.specs.Text.{longest, bytes, hallLine, stopLine, said}
@@ -29,7 +29,7 @@ number-short BadStop = lit< tt
 number-short BadCost = lit< tt
 number-short LinkPresent = lit< tt
 number-short LinkAbsent = lit< tt
-number-short NotCheaper = lit< tt
+number-short CostWrongSide = lit< tt
 number-short BadImage = lit< tt
 number-short ShortBuffer = lit< tt
 number-short TooManyWays = lit< tt

@@ -20,6 +20,7 @@ use calls::call::IMAGE_CHECK;
 use calls::call::IMAGE_READ;
 use calls::call::IMAGE_WRITE;
 use calls::call::INSERT;
+use calls::call::RAISE;
 use calls::call::WORK_OUT;
 use calls::call::plain;
 use calls::entries::at;
@@ -48,18 +49,19 @@ pub fn stops(seed: &mut u64) -> u64 {
     }
 }
 
-// Which call comes next: of 24, twelve are edits.
+// Which call comes next: of 28, sixteen are edits.
 pub fn call(seed: &mut u64) -> u64 {
-    let x = draw(seed, 24);
+    let x = draw(seed, 28);
     match x {
         0..=4 => INSERT,
         5..=7 => CHEAPEN,
-        8..=11 => DELETE,
-        12..=14 => WORK_OUT,
-        15 | 16 => AUDIT,
-        17 | 18 => IMAGE_WRITE,
-        19..=21 => IMAGE_READ,
-        22 => IMAGE_CHECK,
+        8..=11 => RAISE,
+        12..=15 => DELETE,
+        16..=18 => WORK_OUT,
+        19 | 20 => AUDIT,
+        21 | 22 => IMAGE_WRITE,
+        23..=25 => IMAGE_READ,
+        26 => IMAGE_CHECK,
         _ => if once_in(seed, 4) { EMPTY_HALL } else { INSERT },
     }
 }
@@ -94,24 +96,32 @@ fn stop(seed: &mut u64, stops: u64) -> u64 {
     if once_in(seed, 2) { stops } else { 4294967296 }
 }
 
+// The first stop and the last.
+fn outer(stops: u64) -> Pair {
+    if stops == 0 {
+        return Pair(0, 0);
+    }
+    Pair(0, stops - 1)
+}
+
 // Two stops: often the first and the last or the first two, rarely the same twice.
 fn two(seed: &mut u64, stops: u64) -> Pair {
     let x = draw(seed, 12);
     if x == 0 {
         return Pair(0, 1);
     }
+    if x == 1 {
+        return outer(stops);
+    }
     let u = stop(seed, stops);
     let v = stop(seed, stops);
-    if x == 1 {
+    if x == 2 {
         return Pair(u, v);
     }
     if u != v {
         return Pair(u, v);
     }
-    if 0 < stops {
-        return Pair(0, stops - 1);
-    }
-    Pair(u, v)
+    outer(stops)
 }
 
 // Whether an edit may be accepted where the present cost is this.
@@ -133,7 +143,13 @@ fn ends(seed: &mut u64, call: u64, stops: u64, cost: &[u32; CELLS]) -> Pair {
     pair
 }
 
-// The cost of an edit.
+// A cost at most two away from the present one.
+fn near(seed: &mut u64, present: u64) -> u64 {
+    let past = wrapping_add_u64(present, draw(seed, 5));
+    if past < 2 { 0 } else { past - 2 }
+}
+
+// Any cost.
 fn price(seed: &mut u64, u: u64, v: u64) -> u64 {
     let x = draw(seed, 24);
     match x {
@@ -143,6 +159,18 @@ fn price(seed: &mut u64, u: u64, v: u64) -> u64 {
         3 => 4294967297,
         4..=15 => some_cost(seed, apart(u, v), true),
         _ => some_cost(seed, 0, false),
+    }
+}
+
+// The cost that a call brings: that of a cheapen or a raise is often near the present one.
+fn cost_of(seed: &mut u64, call: u64, u: u64, v: u64, present: u64) -> u64 {
+    match call {
+        CHEAPEN | RAISE => if once_in(seed, 2) {
+            near(seed, present)
+        } else {
+            price(seed, u, v)
+        },
+        _ => price(seed, u, v),
     }
 }
 
@@ -278,6 +306,7 @@ pub fn ask(seed: &mut u64, number: u64, stops: u64, cost: [u32; CELLS]) -> Ask {
     let image = bytes(seed, number, stops, cost);
     let bytes = image.bytes;
     let table = table(seed, number, stops);
+    let present = at(&cost, place(stops, ends.0, ends.1));
     let n = size(seed, stops);
     let odd = odd(seed);
     let call = Call {
@@ -285,7 +314,7 @@ pub fn ask(seed: &mut u64, number: u64, stops: u64, cost: [u32; CELLS]) -> Ask {
         n,
         u: ends.0,
         v: ends.1,
-        cost: price(seed, ends.0, ends.1),
+        cost: cost_of(seed, number, ends.0, ends.1, present),
     };
     Ask {
         call,

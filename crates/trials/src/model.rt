@@ -18,6 +18,7 @@ use calls::call::IMAGE_CHECK;
 use calls::call::IMAGE_READ;
 use calls::call::IMAGE_WRITE;
 use calls::call::INSERT;
+use calls::call::RAISE;
 use calls::call::WORK_OUT;
 use calls::entries::at;
 use calls::entries::at_long;
@@ -91,7 +92,7 @@ pub fn crowded(n: u64, ways: &[u64; CELLS], limit: u64) -> bool {
     more
 }
 
-// The cost of a link that is inserted or cheapened.
+// The cost of a link that is inserted, cheapened or raised.
 fn bad_cost(call: Call) -> bool {
     if call.number == DELETE {
         return false;
@@ -112,6 +113,17 @@ fn bad_pair(call: Call) -> bool {
     call.u == call.v
 }
 
+// A cost that does not cheapen, or does not raise, the present one.
+fn wrong_side(call: Call, present: u64) -> bool {
+    if call.number == CHEAPEN {
+        return present <= call.cost;
+    }
+    if call.number == RAISE {
+        return call.cost <= present;
+    }
+    false
+}
+
 // Refusals 4 to 8 of an edit, where the present cost is 0 for no link.
 fn edit_refusal(call: Call, present: u64) -> u64 {
     if bad_pair(call) {
@@ -129,12 +141,7 @@ fn edit_refusal(call: Call, present: u64) -> u64 {
     if present == 0 {
         return 7;
     }
-    if call.number == CHEAPEN {
-        if present <= call.cost {
-            return 8;
-        }
-    }
-    0
+    if wrong_side(call, present) { 8 } else { 0 }
 }
 
 // Refusals 1 and 2: n, and the lengths of the tables.
@@ -266,7 +273,13 @@ fn touched(ask: Ask, stops: u64, before: [u32; CELLS], after: [u32; CELLS]) -> u
     let call = ask.call;
     let number = call.number;
     match number {
-        INSERT | CHEAPEN | DELETE => lister::touched(&before, &after, stops, call.u, call.v),
+        INSERT | CHEAPEN | RAISE | DELETE => lister::touched(
+            &before,
+            &after,
+            stops,
+            call.u,
+            call.v,
+        ),
         _ => 0,
     }
 }

@@ -8,6 +8,7 @@ use calls::call::IMAGE_CHECK;
 use calls::call::IMAGE_READ;
 use calls::call::IMAGE_WRITE;
 use calls::call::INSERT;
+use calls::call::RAISE;
 use calls::call::WORK_OUT;
 use std::num::wrapping_add_u64;
 
@@ -121,6 +122,7 @@ pub fn write(tally: &[u64; ROOM]) {
     refusals_of(b"audit", tally, AUDIT);
     refusals_of(b"insert", tally, INSERT);
     refusals_of(b"cheapen", tally, CHEAPEN);
+    refusals_of(b"raise", tally, RAISE);
     refusals_of(b"delete", tally, DELETE);
     refusals_of(b"image write", tally, IMAGE_WRITE);
     refusals_of(b"image read", tally, IMAGE_READ);

@@ -11,7 +11,7 @@ use Rattle.book.specs.Hall.{mostStops, scale, upTo, entry}
 use Rattle.book.specs.Call.{edit, number, Answer}
 use Rattle.book.specs.Book.{Book, noLinks, bookAfter, bookAnswer}
 use Rattle.book.specs.declared.Kind.{Kind}
-use Rattle.book.specs.declared.Kind.the-variants.{Insert, Cheapen, Delete}
+use Rattle.book.specs.declared.Kind.the-variants.{Insert, Cheapen, Raise, Delete}
 use Rattle.words.specs.declared.Line.{Line}
 use Rattle.words.specs.declared.Line.the-variants.{Read, Unread}
 use Rattle.words.specs.declared.Named.{Named}
@@ -80,6 +80,7 @@ costlyKind =
     kindIn
     ((bytes "insert", Insert) ∷
     (bytes "cheapen", Cheapen) ∷
+    (bytes "raise", Raise) ∷
     [])
 
 abbrev pub plainKind : List ℕ → Named

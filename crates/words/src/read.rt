@@ -107,6 +107,7 @@ fn costly_kind(word: &[u8]) -> Named
     ensures { λ r. ⌜ r ≡ costlyKind (now (word .entry)) ⌝ }
 {
     let kind = Named::Unknown;
+    let kind = or_kind(word, b"raise", Kind::Raise, kind);
     let kind = or_kind(word, b"cheapen", Kind::Cheapen, kind);
     or_kind(word, b"insert", Kind::Insert, kind)
 }

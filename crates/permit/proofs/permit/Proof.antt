@@ -67,7 +67,14 @@ returns-4 c =
     let enum-told3 : tie.After-enum-told3 = search in let start : tie.After-start = search in
     let if1 : tie.Else1 = search in let entry : tie.Start = search in
     let a = entry .args in
-    by-kind (a .n) (a .e) (a .cost .now) (pair if1) (enum-told3 .enum-told3 .given .1) (start .start .ensures .place) (c .permit-delete .ensures)
+    by-kind (a .n) (a .e) (a .cost .now) (pair if1) (enum-told3 .enum-told3 .given .1) (start .start .ensures .place) (c .permit-raise .ensures)
+
+returns-5 : tie.Need-returns-5
+returns-5 c =
+    let enum-told4 : tie.After-enum-told4 = search in let start : tie.After-start = search in
+    let if1 : tie.Else1 = search in let entry : tie.Start = search in
+    let a = entry .args in
+    by-kind (a .n) (a .e) (a .cost .now) (pair if1) (enum-told4 .enum-told4 .given .1) (start .start .ensures .place) (c .permit-delete .ensures)
 
 pub permit-spec : {M : Type 1} → statement M
 permit-spec =
@@ -75,4 +82,4 @@ permit-spec =
     (tie.spec
     (λ c κs. search needs) returns start-requires add-at mul-present shared-slice-read-present (λ c. search needs)
     (λ c κs. search needs) (λ c. search needs) (λ c κs. search needs) (λ c. search needs) (λ c κs. search needs)
-    returns-2 returns-3 returns-4)
+    (λ c. search needs) (λ c κs. search needs) returns-2 returns-3 returns-4 returns-5)
