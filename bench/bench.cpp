@@ -147,13 +147,38 @@ static bool timed(double &least, const std::function<hall_edited()> &edit) {
     return e.refusal == HALL_ACCEPTED;
 }
 
+// Microseconds of an edit with its audit, and the rows that it touches.
+struct Edits {
+    double edit = 0, rows = 0;
+};
+
+// Means over the links. Each is deleted and inserted again; both count with their least times of ten rounds. A link whose delete
+// would make too many ways is left out.
+static Edits edits(Hall &h, const std::vector<Link> &links) {
+    Edits sum;
+    uint64_t count = 0;
+    for (const Link &l : links) {
+        double gone = 1e300, back = 1e300;
+        hall_edited out = {}, in = {};
+        bool taken = true;
+        for (int round = 0; taken && round < 10; round++)
+            taken = timed(gone, [&] { return out = h.remove(l.from, l.to); }) &&
+                    timed(back, [&] { return in = h.insert(l.from, l.to, l.cost); });
+        if (!taken) continue;
+        sum.edit += gone + back;
+        sum.rows += out.rows + in.rows;
+        count += 2;
+    }
+    return count ? Edits{sum.edit / count, sum.rows / count} : Edits{};
+}
+
 // Microseconds of a raise, and of the delete and the insert that say the same in two edits.
 struct Slower {
     double raise = 0, two = 0;
 };
 
 // Means over the links. Each is raised by half, at once and in two edits, and cheapened back after both; it counts with its least
-// times of ten rounds. A link with the largest cost is left out, and one whose delete would make too many ways.
+// times of ten rounds. A link with the largest cost is left out, and one whose raise or delete would make too many ways.
 static Slower slower(Hall &h, const std::vector<Link> &links) {
     Slower sum;
     uint64_t count = 0;
@@ -194,33 +219,17 @@ static int measure(const std::string &name, Hall h, std::mt19937 &random) {
         others = std::min(others, least_time(10, [&] { igraph.run(); }));
     }
 
-    // Edits: a link is deleted and inserted again, for a sample of the links; each is one edit with its audit, and counts
-    // with its least time of ten rounds.
     std::vector<Link> links = links_of(h);
     std::shuffle(links.begin(), links.end(), random);
     if (links.size() > 64) links.resize(64);
-    uint64_t edits = 0, rows = 0;
-    double edit = 0;
-    for (const Link &l : links) {
-        double gone = 1e300, back = 1e300;
-        hall_edited out = {}, in = {};
-        for (int round = 0; round < 10 && out.refusal == HALL_ACCEPTED; round++) {
-            gone = std::min(gone, time_of([&] { out = h.remove(l.from, l.to); }));
-            if (out.refusal == HALL_ACCEPTED) back = std::min(back, time_of([&] { in = h.insert(l.from, l.to, l.cost); }));
-        }
-        if (out.refusal != HALL_ACCEPTED) continue;
-        edit += gone + back;
-        edits += 2;
-        rows += out.rows + in.rows;
-    }
-    edit /= edits ? edits : 1;
     std::vector<uint32_t> costs = h.cost;
+    Edits e = edits(h, links);
     Slower s = slower(h, links);
     same = same && h.cost == costs && h.audit() == HALL_ACCEPTED;
 
     std::printf("%-28s %5zu %6zu | %8.1f %8.1f %8.1f %5.1f %8.1f | %6.2f %6.2f | %6.2f | %6.2f %6.2f | %8.2f | %s\n", name.c_str(),
-                links_of(h).size(), useful_links(h), ours, audit, edit, edits ? double(rows) / edits : 0.0, s.raise, theirs / ours,
-                others / ours, theirs / audit, theirs / edit, others / edit, s.two / s.raise, same ? "agree" : "DIFFER");
+                links_of(h).size(), useful_links(h), ours, audit, e.edit, e.rows, s.raise, theirs / ours, others / ours, theirs / audit,
+                theirs / e.edit, others / e.edit, s.two / s.raise, same ? "agree" : "DIFFER");
     return same ? 0 : 1;
 }
 

@@ -107,6 +107,14 @@ static void print_call(const char *what, uint32_t refusal)
     printf("%s: %" PRIu32 " %s\n", what, refusal, words(refusal));
 }
 
+/* The belt from 2 to 3 runs slower. First refused: the cost is not above the present one. */
+static void worn_belt(const hall_tables *hall)
+{
+    print_edit("raise 2 3 4", raise_cost(hall, 2, 3, 4));
+    print_edit("raise 2 3 5", raise_cost(hall, 2, 3, 5));
+    print_scores(hall);
+}
+
 /* Says whether the hall that was read back is the one that was written, and the edited tables pass the audit. */
 static int small_hall(void)
 {
@@ -137,10 +145,7 @@ static int small_hall(void)
     same = memcmp(hall.score, copy.score, 4 * sizeof *hall.score) == 0;
     printf("read back: %s\n", same ? "same scores" : "OTHER SCORES");
 
-    /* The belt from 2 to 3 is worn and runs slower. First refused: the cost is not above the present one. */
-    print_edit("raise 2 3 4", raise_cost(&hall, 2, 3, 4));
-    print_edit("raise 2 3 5", raise_cost(&hall, 2, 3, 5));
-    print_scores(&hall);
+    worn_belt(&hall);
 
     /* A stray write is found by the call itself. */
     copy.ways[3] += 1;

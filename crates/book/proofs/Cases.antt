@@ -63,9 +63,16 @@ change kind u v cost = edit (record { kind = kind; u = u; v = v; cost = cost })
 abbrev pub diamond : List Ask
 diamond = change Insert 0 1 5 ∷ change Insert 0 2 5 ∷ change Insert 1 3 5 ∷ change Insert 2 3 5 ∷ change Cheapen 2 3 5 ∷ []
 
--- a link of 5, and a bypass of 6 over stop 2
-abbrev pub bypass : List Ask
-bypass = change Insert 0 1 5 ∷ change Insert 0 2 3 ∷ change Insert 2 1 3 ∷ []
+-- cost tables to raise a link in: a link of 5 from 0 to 1 beside 3 and 3 over 2; the hall of P2; and from 0 to 3 a link of 10 beside
+-- 5 and 5 over 2, from where to 3 there are 3 and 3 over 1 too
+abbrev pub bypass : List ℕ
+bypass = 0 ∷ 5 ∷ 3 ∷ 0 ∷ 0 ∷ 0 ∷ 0 ∷ 3 ∷ 0 ∷ []
+
+abbrev pub uneven : List ℕ
+uneven = 0 ∷ 5 ∷ 5 ∷ 0 ∷ 0 ∷ 0 ∷ 0 ∷ 5 ∷ 0 ∷ 0 ∷ 0 ∷ 4 ∷ 0 ∷ 0 ∷ 0 ∷ 0 ∷ []
+
+abbrev pub ties : List ℕ
+ties = 0 ∷ 0 ∷ 5 ∷ 10 ∷ 0 ∷ 0 ∷ 0 ∷ 3 ∷ 0 ∷ 3 ∷ 0 ∷ 5 ∷ 0 ∷ 0 ∷ 0 ∷ 0 ∷ []
 
 abbrev pub cases : List Case
 cases =
@@ -76,7 +83,8 @@ cases =
     -- P3: then it closes
     case 4 (diamond ++ change Cheapen 2 3 4 ∷ change Delete 2 3 0 ∷ []) (0 ∷ 0 ∷ 0 ∷ 0 ∷ 0 ∷ 8 ∷ 0 ∷ 0 ∷ []) (0 ∷ 1 ∷ 1 ∷ 2 ∷ 2 ∷ 0 ∷ 2 ∷ 2 ∷ []) (0 ∷ scale ∷ 0 ∷ 0 ∷ []) ∷
     -- P4: one stop has no link (one-stop, in Calls, says it of every edit)
-    case 1 (change Insert 0 0 5 ∷ change Insert 0 1 5 ∷ change Cheapen 0 0 0 ∷ change Delete 7 9 0 ∷ []) (0 ∷ 4 ∷ 4 ∷ 4 ∷ 4 ∷ []) (0 ∷ 0 ∷ 0 ∷ 0 ∷ 0 ∷ []) (0 ∷ []) ∷
+    case 1 (change Insert 0 0 5 ∷ change Insert 0 1 5 ∷ change Cheapen 0 0 0 ∷ change Raise 0 0 5 ∷ change Delete 7 9 0 ∷ []) (0 ∷ 4 ∷ 4 ∷ 4 ∷ 4 ∷ 4 ∷ [])
+    (0 ∷ 0 ∷ 0 ∷ 0 ∷ 0 ∷ 0 ∷ []) (0 ∷ []) ∷
     -- P5: no stop is no hall
     case 0 (change Insert 0 1 5 ∷ []) (1 ∷ 1 ∷ []) (0 ∷ 0 ∷ []) [] ∷
     -- P6, P7: the largest cost, and one more
@@ -84,19 +92,16 @@ cases =
     case 2 (change Insert 0 1 65536 ∷ []) (0 ∷ 5 ∷ []) (0 ∷ 0 ∷ []) (0 ∷ 0 ∷ []) ∷
     -- P8: a cost of 0 is told before an absent link
     case 2 (change Cheapen 0 1 0 ∷ []) (0 ∷ 5 ∷ []) (0 ∷ 0 ∷ []) (0 ∷ 0 ∷ []) ∷
-    -- a raise that loses every route of its link; then one of a link that no quickest route uses, which touches nothing
-    case 3 (bypass ++ change Raise 0 1 7 ∷ []) (0 ∷ 0 ∷ 0 ∷ 0 ∷ 0 ∷ []) (0 ∷ 1 ∷ 1 ∷ 1 ∷ 1 ∷ []) (0 ∷ 0 ∷ scale ∷ []) ∷
-    case 3 (bypass ++ change Raise 0 1 7 ∷ change Raise 0 1 9 ∷ []) (0 ∷ 0 ∷ 0 ∷ 0 ∷ 0 ∷ 0 ∷ []) (0 ∷ 1 ∷ 1 ∷ 1 ∷ 1 ∷ 0 ∷ []) (0 ∷ 0 ∷ scale ∷ []) ∷
-    -- raises that keep some: P2 raised back to the tie of P1; and P1 raised, which keeps the route from 2 to 3 and loses the one of 0
-    case 4 (diamond ++ change Cheapen 2 3 4 ∷ change Raise 2 3 5 ∷ []) (0 ∷ 0 ∷ 0 ∷ 0 ∷ 0 ∷ 8 ∷ 0 ∷ 0 ∷ []) (0 ∷ 1 ∷ 1 ∷ 2 ∷ 2 ∷ 0 ∷ 2 ∷ 2 ∷ []) (0 ∷ scale / 2 ∷ scale / 2 ∷ 0 ∷ []) ∷
-    case 4 (diamond ++ change Raise 2 3 6 ∷ []) (0 ∷ 0 ∷ 0 ∷ 0 ∷ 0 ∷ 8 ∷ 0 ∷ []) (0 ∷ 1 ∷ 1 ∷ 2 ∷ 2 ∷ 0 ∷ 2 ∷ []) (0 ∷ scale ∷ 0 ∷ 0 ∷ []) ∷
-    -- a tie before, from 0 to 3, and one after, from 2 to 3 directly and over 4
-    case 5 (diamond ++ change Insert 2 4 3 ∷ change Insert 4 3 3 ∷ change Raise 2 3 6 ∷ []) (0 ∷ 0 ∷ 0 ∷ 0 ∷ 0 ∷ 8 ∷ 0 ∷ 0 ∷ 0 ∷ [])
-    (0 ∷ 1 ∷ 1 ∷ 2 ∷ 2 ∷ 0 ∷ 2 ∷ 1 ∷ 2 ∷ []) (0 ∷ scale ∷ scale ∷ 0 ∷ scale / 2 ∷ []) ∷
-    -- its refusals: 4 before 5, 5 before 7; 8 at the present cost and below it; the largest cost, and one more
-    case 2 (change Raise 1 1 0 ∷ change Raise 0 1 0 ∷ change Raise 0 1 65536 ∷ change Raise 0 1 5 ∷ []) (0 ∷ 4 ∷ 5 ∷ 5 ∷ 7 ∷ []) (0 ∷ 0 ∷ 0 ∷ 0 ∷ 0 ∷ []) (0 ∷ 0 ∷ []) ∷
-    case 2 (change Insert 0 1 9 ∷ change Raise 0 1 9 ∷ change Raise 0 1 8 ∷ change Raise 0 1 65536 ∷ change Raise 0 1 65535 ∷ change Raise 0 1 65535 ∷ [])
-    (0 ∷ 0 ∷ 8 ∷ 8 ∷ 5 ∷ 0 ∷ 8 ∷ []) (0 ∷ 1 ∷ 0 ∷ 0 ∷ 0 ∷ 1 ∷ 0 ∷ []) (0 ∷ 0 ∷ []) ∷ []
+    -- a raise that loses every route of its link, and then one of a link that no quickest route uses, which touches nothing
+    case 3 (workOut bypass ∷ change Raise 0 1 7 ∷ change Raise 0 1 9 ∷ []) (0 ∷ 0 ∷ 0 ∷ 0 ∷ []) (0 ∷ 0 ∷ 1 ∷ 0 ∷ []) (0 ∷ 0 ∷ scale ∷ []) ∷
+    -- raises that keep some: P2's link back to the tie of P1; and one that loses a tie, from 0 to 3, and comes into another, from 2 to 3
+    case 4 (workOut uneven ∷ change Raise 2 3 5 ∷ []) (0 ∷ 0 ∷ 0 ∷ []) (0 ∷ 0 ∷ 2 ∷ []) (0 ∷ scale / 2 ∷ scale / 2 ∷ 0 ∷ []) ∷
+    case 4 (workOut ties ∷ change Raise 2 3 6 ∷ []) (0 ∷ 0 ∷ 0 ∷ []) (0 ∷ 0 ∷ 2 ∷ []) (0 ∷ scale / 2 ∷ scale ∷ 0 ∷ []) ∷
+    -- refusals of a raise: 4 before 5, 5 before 7; 5 before 8, 8 at the present cost and below it; the largest cost, and one more
+    case 2 (change Raise 1 1 0 ∷ change Raise 0 1 0 ∷ change Raise 0 1 65536 ∷ change Raise 0 1 5 ∷ []) (0 ∷ 4 ∷ 5 ∷ 5 ∷ 7 ∷ []) (0 ∷ 0 ∷ 0 ∷ 0 ∷ 0 ∷ [])
+    (0 ∷ 0 ∷ []) ∷
+    case 2 (change Insert 0 1 9 ∷ change Raise 0 1 0 ∷ change Raise 0 1 9 ∷ change Raise 0 1 8 ∷ change Raise 0 1 65536 ∷ change Raise 0 1 65535 ∷ [])
+    (0 ∷ 0 ∷ 5 ∷ 8 ∷ 8 ∷ 5 ∷ 0 ∷ []) (0 ∷ 1 ∷ 0 ∷ 0 ∷ 0 ∷ 0 ∷ 1 ∷ []) (0 ∷ 0 ∷ []) ∷ []
 
 -- the cost tables that an insert, a cheapen, a raise and a delete leave
 pub costs-left :
@@ -108,17 +113,18 @@ pub costs-left :
 unfolding sumTo joinTo listTo allTo same setOf count visits uses time least extend hops routes leastTime quickest ways through portion share used score filled sized validCosts uncrowded right touched rule refusal after answer run stepsOf
 costs-left = (refl, refl, refl, refl)
 
-pub cases-hold : map holds cases ≡ replicate 15 true
+pub cases-hold : map holds cases ≡ replicate 13 true
 unfolding holds sumTo joinTo listTo allTo same setOf count visits uses time least extend hops routes leastTime quickest ways through portion share used score filled sized validCosts uncrowded right touched rule refusal after answer run stepsOf
 cases-hold = refl
 
--- the sets of touched sources of raises in the book, a refused one among them, and the links that they leave
+-- the sets of touched sources of raises in the book, a refused one among them and one of a link that no quickest route uses, and the
+-- links that they leave
 pub raises-run :
     let at : ℕ → List Ask → List Call = λ n asks. map (λ a. record { n = n; ask = a }) asks in
     let sets : ℕ → List Ask → List ℕ = λ n asks. map (λ a. a .touched) (bookAnswers (at n asks) (noLinks n)) in
-    (sets 4 (diamond ++ change Raise 2 3 6 ∷ []) ≡ 1 ∷ 1 ∷ 3 ∷ 5 ∷ 0 ∷ 5 ∷ []) ×
-    (sets 3 (bypass ++ change Raise 2 1 2 ∷ change Raise 2 1 4 ∷ change Raise 0 1 7 ∷ []) ≡ 1 ∷ 1 ∷ 4 ∷ 0 ∷ 4 ∷ 1 ∷ []) ×
-    (run bookAfter (at 3 (bypass ++ change Raise 2 1 2 ∷ change Raise 2 1 4 ∷ [])) (noLinks 3) .links ≡ 0 ∷ 5 ∷ 3 ∷ 0 ∷ 0 ∷ 0 ∷ 0 ∷ 4 ∷ 0 ∷ [])
+    (sets 4 (workOut uneven ∷ change Raise 2 3 5 ∷ change Raise 2 3 6 ∷ change Raise 2 3 7 ∷ []) ≡ 0 ∷ 5 ∷ 5 ∷ 4 ∷ []) ×
+    (sets 3 (workOut bypass ∷ change Raise 2 1 2 ∷ change Raise 2 1 4 ∷ change Raise 0 1 8 ∷ change Raise 0 1 9 ∷ []) ≡ 0 ∷ 0 ∷ 4 ∷ 1 ∷ 0 ∷ []) ×
+    (run bookAfter (at 3 (workOut bypass ∷ change Raise 2 1 2 ∷ change Raise 2 1 4 ∷ [])) (noLinks 3) .links ≡ 0 ∷ 5 ∷ 3 ∷ 0 ∷ 0 ∷ 0 ∷ 0 ∷ 4 ∷ 0 ∷ [])
 unfolding sumTo joinTo listTo allTo same setOf count visits uses time least extend hops routes leastTime quickest ways through portion share used score filled sized validCosts uncrowded right touched rule bookRefusal bookAfter bookAnswer bookAnswers run
 raises-run = (refl, refl, refl)
 

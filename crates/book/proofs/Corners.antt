@@ -89,12 +89,12 @@ corners =
     corner 3 line audit 0 ∷ corner 3 damaged audit 3 ∷ corner 3 short audit 2 ∷ corner 4 line audit 2 ∷ corner 3 (lineTables 1 (0 ∷ 0 ∷ 0 ∷ [])) audit 3 ∷
     -- a cost that no quickest route uses may differ, one that ties or improves may not
     corner 3 (direct 5) audit 0 ∷ corner 3 (direct 6) audit 0 ∷ corner 3 (direct 2) audit 3 ∷ corner 3 (direct 1) audit 3 ∷
-    -- edits: 3 before 4, 4 before 5, 5 before 6 and 7, 7 before 8; a raise has its 8 on the other side; a delete's cost is not read
+    -- edits: 3 before 4, 4 before 5, 5 before 6, 7 and 8, 7 before 8; a raise has its 8 on the other side; a delete's cost is not read
     corner 3 damaged (change Insert 3 3 0) 3 ∷ corner 3 line (change Insert 3 1 0) 4 ∷ corner 3 line (change Insert 0 1 0) 5 ∷ corner 3 line (change Insert 0 1 5) 6 ∷
     corner 3 line (change Insert 0 1 65536) 5 ∷ corner 3 line (change Cheapen 0 2 65536) 5 ∷
     corner 3 line (change Insert 0 2 5) 0 ∷ corner 3 line (change Cheapen 0 2 4) 7 ∷ corner 3 line (change Cheapen 0 1 1) 8 ∷ corner 3 line (change Cheapen 0 1 0) 5 ∷
-    corner 3 damaged (change Raise 3 3 0) 3 ∷ corner 3 line (change Raise 1 3 0) 4 ∷ corner 3 line (change Raise 0 2 65536) 5 ∷ corner 3 line (change Raise 0 2 4) 7 ∷
-    corner 3 line (change Raise 0 1 1) 8 ∷ corner 3 line (change Raise 0 1 2) 0 ∷ corner 3 short (change Raise 0 1 2) 2 ∷ corner 65 line (change Raise 0 1 2) 1 ∷
+    corner 3 line (change Cheapen 0 1 65536) 5 ∷ corner 3 line (change Raise 0 1 0) 5 ∷ corner 3 line (change Raise 0 1 1) 8 ∷ corner 3 line (change Raise 0 1 2) 0 ∷
+    corner 3 damaged (change Raise 3 3 0) 3 ∷ corner 3 short (change Raise 0 1 2) 2 ∷
     corner 3 line (change Delete 0 2 4) 7 ∷ corner 3 line (change Delete 1 1 4) 4 ∷ corner 3 line (change Delete 0 1 65536) 0 ∷ corner 3 short (change Delete 0 1 1) 2 ∷
     -- image write: a buffer that fits, one byte short, and tables that do not belong to their hall
     corner 3 line (imageWrite (replicate 16 7)) 0 ∷ corner 3 line (imageWrite (replicate 15 7)) 10 ∷ corner 3 damaged (imageWrite (replicate 16 7)) 3 ∷
@@ -104,7 +104,7 @@ corners =
     corner 3 line (imageRead (0 ∷ 1 ∷ 1 ∷ 0 ∷ 0 ∷ 1 ∷ drop 6 lineImage)) 9 ∷ corner 3 line (imageRead (0 ∷ 1 ∷ 0 ∷ drop 3 lineImage)) 9 ∷
     corner 3 line (imageRead (take 8 lineImage ++ (2 ∷ drop 9 lineImage))) 9 ∷ []
 
-pub corners-hold : map answersSo corners ≡ replicate 56 true
+pub corners-hold : map answersSo corners ≡ replicate 54 true
 unfolding answersSo sumTo joinTo listTo allTo same setOf count visits uses time least extend hops routes leastTime quickest ways through portion share used score filled sized validCosts uncrowded right touched lowFirst field imageOf validRecord isImage costsOf rule refusal after answer
 corners-hold = refl
 

@@ -1,5 +1,5 @@
--- Halls of seven stops with exactly 22 ways of a pair, and with more: refusal 11 by work out, image read and each kind of edit, and what
--- is told before it, computed over the book, which demand 3 ties to the tables. lister_try writes the scores of `fewer` too.
+-- Halls of seven stops with exactly 22 ways of a pair, and with more: refusal 11 by work out, image read, insert, raise and delete,
+-- and what is told before it, computed over the book, which demand 3 ties to the tables. lister_try writes the scores of `fewer` too.
 -- Assumes nothing.
 use Prim.Native.Nat.{ℕ, _-_}
 use mathlib.Core.Path.{_≡_, refl}
@@ -24,9 +24,9 @@ dense = table 7 (λ u v. v - u)
 abbrev pub fewer : List ℕ
 fewer = table 7 (λ u v. cond (eqb v 6 && not (eqb u 2 || (eqb u 3 || eqb u 5))) 0 (v - u))
 
--- the same, but a link of 5 from 0 to 6, which is quicker than all others
-abbrev pub quicker : List ℕ
-quicker = table 7 (λ u v. cond (eqb u 0 && eqb v 6) 5 (v - u))
+-- the same, but a link of cost c from 0 to 6, which below 6 is quicker than all others
+abbrev pub quicker : ℕ → List ℕ
+quicker c = table 7 (λ u v. cond (eqb u 0 && eqb v 6) c (v - u))
 
 -- the image of the first hall, and one that is none: its kind is 2
 abbrev pub denseImage : List ℕ
@@ -49,30 +49,26 @@ left asks = run bookAfter (calls asks) (noLinks 7) .links
 abbrev pub more : List Ask
 more = workOut dense ∷ workOut (1 ∷ drop 1 dense) ∷ imageRead denseImage ∷ imageRead otherKind ∷ audit ∷ []
 
--- exactly 22 ways from 0 to 6: accepted; the link 1 to 6 would make them 23, but 7 comes before 11; with a cost of 6 it carries none of
--- them, and with 5 it would make them 23, but a raise to 5 is 8 first
+-- exactly 22 ways from 0 to 6: accepted; the link 1 to 6 would make them 23, but 7 comes before 11
 abbrev pub most : List Ask
-most = workOut fewer ∷ change Insert 1 6 5 ∷ change Cheapen 1 6 5 ∷ audit ∷ change Insert 1 6 6 ∷ change Cheapen 1 6 5 ∷ change Raise 1 6 5 ∷ change Delete 1 6 0 ∷ []
+most = workOut fewer ∷ change Insert 1 6 5 ∷ change Cheapen 1 6 5 ∷ change Raise 1 6 5 ∷ audit ∷ []
 
--- one way from 0 to 6: without its link there would be 31, and with a cost of 6 there would be 32, but 6 and 8 come before 11
+-- one way from 0 to 6: without its link there would be 31, and with a cost of 6 there would be 32, but 6 and 8 come before 11; a raise
+-- from 4 to 5 leaves the one way
 abbrev pub one : List Ask
-one = workOut quicker ∷ change Delete 0 6 0 ∷ change Insert 0 6 6 ∷ change Cheapen 0 6 6 ∷ audit ∷ []
-
--- so a raise to 6 or 7 is 11; one from 4 to 5 leaves the one way, where a delete, and then an insert, would be 11
-abbrev pub slower : List Ask
-slower = workOut quicker ∷ change Raise 0 6 6 ∷ change Raise 0 6 7 ∷ change Cheapen 0 6 4 ∷ change Delete 0 6 0 ∷ change Raise 0 6 5 ∷ []
+one = workOut (quicker 4) ∷ change Delete 0 6 0 ∷ change Raise 0 6 5 ∷ change Raise 0 6 6 ∷ change Insert 0 6 6 ∷ change Cheapen 0 6 6 ∷ audit ∷ []
 
 pub crowded-told :
-    (told more ≡ 11 ∷ 5 ∷ 11 ∷ 9 ∷ 0 ∷ []) × (left more ≡ replicate 49 0) × (told most ≡ 0 ∷ 11 ∷ 7 ∷ 0 ∷ 0 ∷ 11 ∷ 8 ∷ 0 ∷ []) × (left most ≡ fewer) ×
-    (told one ≡ 0 ∷ 11 ∷ 6 ∷ 8 ∷ 0 ∷ []) × (left one ≡ quicker) × (told slower ≡ 0 ∷ 11 ∷ 11 ∷ 0 ∷ 11 ∷ 0 ∷ []) × (left slower ≡ quicker)
+    (told more ≡ 11 ∷ 5 ∷ 11 ∷ 9 ∷ 0 ∷ []) × (left more ≡ replicate 49 0) × (told most ≡ 0 ∷ 11 ∷ 7 ∷ 7 ∷ 0 ∷ []) × (left most ≡ fewer) ×
+    (told one ≡ 0 ∷ 11 ∷ 0 ∷ 11 ∷ 6 ∷ 8 ∷ 0 ∷ []) × (left one ≡ quicker 5)
 unfolding sumTo joinTo listTo allTo count visits time least extend hops routes leastTime quickest ways validCosts uncrowded lowFirst field imageOf validRecord isImage costsOf rule bookRefusal bookAfter bookAnswer bookAnswers run
-crowded-told = (refl, refl, refl, refl, refl, refl, refl, refl)
+crowded-told = (refl, refl, refl, refl, refl, refl)
 
 -- the same of tables: the delete on those of the last hall
-pub crowded-delete : refusal (record { n = 7; ask = change Delete 0 6 0 }) (filled scale 7 quicker) ≡ TooManyWays
+pub crowded-delete : refusal (record { n = 7; ask = change Delete 0 6 0 }) (filled scale 7 (quicker 5)) ≡ TooManyWays
 unfolding joinTo listTo allTo count visits time least extend hops routes leastTime quickest ways validCosts uncrowded rule bookRefusal
 crowded-delete =
-    refusal-book (record { n = 7; ask = change Delete 0 6 0 }) (record { stops = 7; links = quicker })
+    refusal-book (record { n = 7; ask = change Delete 0 6 0 }) (record { stops = 7; links = quicker 5 })
     (record { size = refl; square = refl; valid = refl; few = refl })
 
 -- the scores of the hall with 22 ways, worked out apart
@@ -81,7 +77,7 @@ unfolding sumTo joinTo listTo count visits time least extend hops routes leastTi
 most-scores = refl
 
 -- the ways of that pair
-pub crowded-ways : (ways (entry 7 dense) 7 0 6 ≡ 32) × (ways (entry 7 fewer) 7 0 6 ≡ mostWays) × (ways (entry 7 quicker) 7 0 6 ≡ 1)
+pub crowded-ways : (ways (entry 7 dense) 7 0 6 ≡ 32) × (ways (entry 7 fewer) 7 0 6 ≡ mostWays) × (ways (entry 7 (quicker 5)) 7 0 6 ≡ 1)
 unfolding joinTo listTo count visits time least extend hops routes leastTime quickest ways
 crowded-ways = (refl, refl, refl)
 

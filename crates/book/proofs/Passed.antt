@@ -9,7 +9,7 @@ use lib.Dec.{eqb, ltb, leb}
 use borrow.Author.Tests.{eqb-true, eqb-false, leb-true, ltb-true, le-ltb, not-true}
 use Rattle.routes.proofs.Booleans.{both}
 use Rattle.book.specs.Hall.{Tables, mostStops, largestCost, mostWays, upTo, entry, sized, validPair, uncrowded}
-use Rattle.book.specs.Call.{Call, edit, accepted, need, newCostTests, costTests, waysTest, costSet, withEdit, Rule, rule, chain, refusal}
+use Rattle.book.specs.Call.{Call, edit, accepted, need, otherCostTests, costTests, waysTest, costSet, withEdit, Rule, rule, chain, refusal}
 use Rattle.book.specs.declared.Edit.{Edit}
 use Rattle.book.specs.declared.Kind.{Kind}
 use Rattle.book.specs.declared.Kind.the-variants.{Insert, Cheapen, Raise, Delete}
@@ -58,13 +58,13 @@ pub record Permitted (n : ℕ) (e : Edit) (cost : List ℕ) : Type 0 where
   pub few : uncrowded mostWays n (withEdit n e cost) ≡ true
 
 -- another cost for a link: it fits, it lies on the side that was asked for, and the tests behind pass
-new-cost-tests : (side : Bool) (c present : ℕ) (next : Refusal) → accepted (newCostTests side c present next) ≡ true →
-    (c ≤ largestCost) × (side ≡ true) × (accepted next ≡ true)
-new-cost-tests side c present next e =
+other-cost-tests : (wanted : Bool) (c present : ℕ) (next : Refusal) → accepted (otherCostTests wanted c present next) ≡ true →
+    (c ≤ largestCost) × (wanted ≡ true) × (accepted next ≡ true)
+other-cost-tests wanted c present next e =
     let (bounds, e₁) = need-true (upTo largestCost c) BadCost _ refl e in
     let (there, e₂) = need-true (ltb 0 present) LinkAbsent _ refl e₁ in
-    let (wanted, e₃) = need-true side CostWrongSide next refl e₂ in
-    (leb-true c largestCost (and-eq-true-iff (leb 1 c) (leb c largestCost) .0 bounds .1), wanted, e₃)
+    let (on, e₃) = need-true wanted CostWrongSide next refl e₂ in
+    (leb-true c largestCost (and-eq-true-iff (leb 1 c) (leb c largestCost) .0 bounds .1), on, e₃)
 
 pub cost-tests : (k : Kind) (c present : ℕ) (next : Refusal) → accepted (costTests k c present next) ≡ true →
     (costSet k c ≤ largestCost) × (present ≢ costSet k c) × (accepted next ≡ true)
@@ -74,10 +74,10 @@ cost-tests Insert c present next e =
     let (low, high) = and-eq-true-iff (leb 1 c) (leb c largestCost) .0 bounds in
     (leb-true c largestCost high, omega (arith, leb-true 1 c low, eqb-true present 0 absent), e₂)
 cost-tests Cheapen c present next e =
-    let (fits, less, e₁) = new-cost-tests (ltb c present) c present next e in
+    let (fits, less, e₁) = other-cost-tests (ltb c present) c present next e in
     (fits, omega (arith, ltb-true c present less), e₁)
 cost-tests Raise c present next e =
-    let (fits, more, e₁) = new-cost-tests (ltb present c) c present next e in
+    let (fits, more, e₁) = other-cost-tests (ltb present c) c present next e in
     (fits, omega (arith, ltb-true present c more), e₁)
 cost-tests Delete c present next e =
     let (there, e₁) = need-true (ltb 0 present) LinkAbsent next refl e in

@@ -1,21 +1,20 @@
--- A raise says in one edit what a delete and an insert say in two. Assumes nothing.
-use Prim.Native.Nat.{ℕ, _+_, _*_}
+-- What operators said in two edits, a delete and an insert at a higher cost, a raise says in one. Assumes nothing.
+use Prim.Native.Nat.{ℕ, _+_, _*_, _<_}
 use mathlib.Core.Path.{_≡_, refl, sym, _∙_, ap}
 use mathlib.Core.Bool.{true}
 use mathlib.Core.List.{List}
+use lib.Dec.{ltb}
 use lib.ListN.{set}
 use lib.Seq.{set-set}
-use borrow.Author.Tests.{eq-eqb}
+use borrow.Author.Tests.{lt-ltb}
 use Rattle.book.specs.Hall.{Tables, mostWays, largestCost, scale, upTo, entry, filled, validPair, uncrowded}
 use Rattle.book.specs.Call.{Call, edit, rule, refusal, after}
 use Rattle.book.specs.declared.Edit.{Edit}
 use Rattle.book.specs.declared.Kind.{Kind}
 use Rattle.book.specs.declared.Kind.the-variants.{Insert, Raise, Delete}
-use Rattle.book.specs.declared.Refusal.the-variants.{Accepted, BadStop, BadCost}
-use Rattle.book.proofs.Tables.{entry-set}
-use Rattle.book.proofs.Filled.{sized-filled, sized-cost, right-filled}
-use Rattle.book.proofs.Passed.{need-true, passed, Permitted, permitted}
-use Rattle.book.proofs.Steps.{Held, accepted-held, accepted-filled}
+use Rattle.book.specs.declared.Refusal.the-variants.{Accepted, BadStop, BadCost, LinkAbsent}
+use Rattle.book.proofs.Passed.{need-true, passed, audited}
+use Rattle.book.proofs.Steps.{accepted-held, accepted-filled}
 use Rattle.book.proofs.Calls.{edit-taken}
 
 module _ (n u v c x : ℕ) (t : Tables) where
@@ -25,47 +24,42 @@ module _ (n u v c x : ℕ) (t : Tables) where
   abbrev call : Kind → ℕ → Call
   call kind cost = record { n = n; ask = edit (change kind cost) }
 
-  -- the costs without the link
+  -- the tables that the delete left, and their costs
   abbrev without : List ℕ
   without = set (t .cost) (u * n + v) 0
 
-  module _ (raised : refusal (call Raise c) t ≡ Accepted) (deleted : refusal (call Delete x) t ≡ Accepted) where
-    held : Held n without
-    unfolding rule
-    held = accepted-held (call Delete x) t deleted
+  abbrev shut : Tables
+  shut = filled scale n without
 
-    higher : Held n (set (t .cost) (u * n + v) c)
+  module _ (deleted : refusal (call Delete x) t ≡ Accepted) (inserted : refusal (call Insert c) (after (call Delete x) t) ≡ Accepted)
+      (more : entry n (t .cost) u v < c) where
+    left : after (call Delete x) t ≡ shut
     unfolding rule
-    higher = accepted-held (call Raise c) t raised
+    left = accepted-filled (call Delete x) t deleted
 
-    stops : (validPair n u v ≡ true) × (upTo largestCost c ≡ true)
-    unfolding rule
-    stops =
-        let (size, lengths, tests) = passed (call Raise c) t raised in
-        let (pair, tests′) = need-true (validPair n u v) BadStop _ refl tests in
-        (pair, need-true (upTo largestCost c) BadCost _ refl tests′ .0)
-
-    absent : entry n without u v ≡ 0
-    unfolding rule
-    absent =
-        let (size, lengths, tests) = passed (call Delete x) t deleted in
-        let p : Permitted n (change Delete x) (t .cost) = permitted n (change Delete x) (t .cost) tests in
-        entry-set n (t .cost) u v 0 u v (sized-cost n t lengths) (p .from) (p .to) (p .to) ∙ rw (eq-eqb u u refl, eq-eqb v v refl)
+    behind : refusal (call Insert c) shut ≡ Accepted
+    behind = rw (← left) inserted
 
     again : set without (u * n + v) c ≡ set (t .cost) (u * n + v) c
     again = set-set (t .cost) (u * n + v) 0 c
 
-    taken : refusal (call Insert c) (filled scale n without) ≡ Accepted
-    unfolding filled
-    taken =
-        edit-taken n (change Insert c) (filled scale n without) (held .size)
-        (sized-filled scale n n without (held .square) ∙ eq-eqb n n refl)
-        (right-filled scale mostWays n without (held .valid) (held .few)) (stops .0)
-        (rw (stops .1, absent)) (rw again (higher .few))
-
-    -- where the raise and the delete are accepted, so is the insert behind the delete, and it leaves what the raise leaves
-    pub raise-for-two : let t′ : Tables = after (call Delete x) t in
-        (refusal (call Insert c) t′ ≡ Accepted) × (after (call Insert c) t′ ≡ after (call Raise c) t)
+    few : uncrowded mostWays n (set (t .cost) (u * n + v) c) ≡ true
     unfolding rule filled
-    raise-for-two = rw (accepted-filled (call Delete x) t deleted)
-        (taken, accepted-filled (call Insert c) (filled scale n without) taken ∙ ap (filled scale n) again ∙ sym (accepted-filled (call Raise c) t raised))
+    few = rw (← again) (accepted-held (call Insert c) shut behind .few)
+
+    -- the raise has the delete's link and the insert's cost
+    taken : refusal (call Raise c) t ≡ Accepted
+    unfolding rule filled
+    taken =
+        let (size, lengths, tests) = passed (call Delete x) t deleted in
+        let (pair, tests₁) = need-true (validPair n u v) BadStop _ refl tests in
+        let (there, tests₂) = need-true (ltb 0 (entry n (t .cost) u v)) LinkAbsent _ refl tests₁ in
+        let (size′, lengths′, more-tests) = passed (call Insert c) shut behind in
+        let (pair′, more-tests₁) = need-true (validPair n u v) BadStop _ refl more-tests in
+        let (fits, more-tests₂) = need-true (upTo largestCost c) BadCost _ refl more-tests₁ in
+        edit-taken n (change Raise c) t size lengths (audited (call Delete x) t deleted) pair (rw (fits, there, lt-ltb (entry n (t .cost) u v) c more)) few
+
+    pub raise-for-two : (refusal (call Raise c) t ≡ Accepted) × (after (call Raise c) t ≡ after (call Insert c) (after (call Delete x) t))
+    unfolding rule filled
+    raise-for-two =
+        (taken, rw left (accepted-filled (call Raise c) t taken ∙ ap (filled scale n) (sym again) ∙ sym (accepted-filled (call Insert c) shut behind)))

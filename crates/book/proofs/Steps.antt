@@ -9,7 +9,7 @@ use lib.ListN.{length, replicate, length-set, length-replicate}
 use borrow.Author.Tests.{eqb-true, eq-eqb}
 use Rattle.routes.proofs.Booleans.{both}
 use Rattle.book.specs.Hall.{Tables, mostStops, largestCost, mostWays, scale, upTo, entry, filled, sized, validPair, validCosts, uncrowded, right, imageOf, isImage, costsOf}
-use Rattle.book.specs.Call.{Ask, emptyHall, audit, workOut, edit, imageWrite, imageRead, Call, number, accepted, need, newCostTests, costTests, waysTest, costSet, withEdit, Rule, rule, Answer, refusal, after, answer, Done}
+use Rattle.book.specs.Call.{Ask, emptyHall, audit, workOut, edit, imageWrite, imageRead, Call, number, accepted, need, otherCostTests, costTests, waysTest, costSet, withEdit, Rule, rule, Answer, refusal, after, answer, Done}
 use Rattle.book.specs.Book.{Book, bookRefusal, bookAfter, bookAnswer, Step, withCost, lent, kept, Sequence}
 use Rattle.book.specs.declared.Edit.{Edit}
 use Rattle.book.specs.declared.Kind.{Kind}
@@ -217,14 +217,14 @@ need-other false r e f = record { not-three = e }
 ways-other : (n : ℕ) (cost : List ℕ) → Other (waysTest n cost)
 ways-other n cost = need-other (uncrowded mostWays n cost) TooManyWays refl (record { not-three = refl })
 
-new-cost-other : (side : Bool) (c present : ℕ) {next : Refusal} → Other next → Other (newCostTests side c present next)
-new-cost-other side c present f =
-    need-other (upTo largestCost c) BadCost refl (need-other (ltb 0 present) LinkAbsent refl (need-other side CostWrongSide refl f))
+other-cost-other : (wanted : Bool) (c present : ℕ) {next : Refusal} → Other next → Other (otherCostTests wanted c present next)
+other-cost-other wanted c present f =
+    need-other (upTo largestCost c) BadCost refl (need-other (ltb 0 present) LinkAbsent refl (need-other wanted CostWrongSide refl f))
 
 cost-other : (k : Kind) (c present : ℕ) {next : Refusal} → Other next → Other (costTests k c present next)
 cost-other Insert c present f = need-other (upTo largestCost c) BadCost refl (need-other (eqb present 0) LinkPresent refl f)
-cost-other Cheapen c present f = new-cost-other (ltb c present) c present f
-cost-other Raise c present f = new-cost-other (ltb present c) c present f
+cost-other Cheapen c present f = other-cost-other (ltb c present) c present f
+cost-other Raise c present f = other-cost-other (ltb present c) c present f
 cost-other Delete c present f = need-other (ltb 0 present) LinkAbsent refl f
 
 rule-other : (n : ℕ) (ask : Ask) (cost : List ℕ) → Other (rule n ask cost .tests)

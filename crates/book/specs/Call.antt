@@ -49,15 +49,15 @@ pub record Call : Type 0 where
 abbrev pub need : Bool → Refusal → Refusal → Refusal
 need passes refusal next = cond passes next refusal
 
--- 5, 7 and 8, of another cost c for a link; `side` says whether c lies on the side of the present cost that the kind wants
-abbrev pub newCostTests : (side : Bool) → (c present : ℕ) → Refusal → Refusal
-newCostTests side c present next = need (upTo largestCost c) BadCost (need (ltb 0 present) LinkAbsent (need side CostWrongSide next))
+-- 5, 7 and 8, of another cost c for a link; `wanted` says that c lies on the side of the present cost that the kind wants
+abbrev pub otherCostTests : (wanted : Bool) → (c present : ℕ) → Refusal → Refusal
+otherCostTests wanted c present next = need (upTo largestCost c) BadCost (need (ltb 0 present) LinkAbsent (need wanted CostWrongSide next))
 
 -- 5 to 8, by an edit's kind, its cost and the present cost of its link
 abbrev pub costTests : Kind → ℕ → ℕ → Refusal → Refusal
 costTests Insert c present next = need (upTo largestCost c) BadCost (need (eqb present 0) LinkPresent next)
-costTests Cheapen c present next = newCostTests (ltb c present) c present next
-costTests Raise c present next = newCostTests (ltb present c) c present next
+costTests Cheapen c present next = otherCostTests (ltb c present) c present next
+costTests Raise c present next = otherCostTests (ltb present c) c present next
 costTests Delete c present next = need (ltb 0 present) LinkAbsent next
 
 -- 4 to 8, by an edit and the present costs

@@ -4,7 +4,7 @@ use mathlib.Core.Path.{_≡_, refl, sym, _∙_, ap}
 use mathlib.Core.Bool.{Bool, true, false, cond}
 use lib.Dec.{eqb, ltb}
 use Rattle.book.specs.Hall.{Tables, largestCost, mostWays, scale, upTo, entry, validPair, uncrowded}
-use Rattle.book.specs.Call.{Call, edit, accepted, need, newCostTests, costTests, editTests, waysTest, costSet, withEdit, rule, Answer, refusal, after, answer, Done}
+use Rattle.book.specs.Call.{Call, edit, accepted, need, otherCostTests, costTests, editTests, waysTest, costSet, withEdit, rule, Answer, refusal, after, answer, Done}
 use Rattle.book.specs.Contract.{ofRefusal, Audited}
 use Rattle.book.specs.declared.Edit.{Edit}
 use Rattle.book.specs.declared.Kind.{Kind}
@@ -30,13 +30,13 @@ chained : (p : Bool) (r : Refusal) {first next whole : Refusal} → accepted r �
 chained true r f e = e
 chained false r f e = record { follows = rw f }
 
-new-cost-chain : (side : Bool) (c present : ℕ) {next : Refusal} → Chain (newCostTests side c present Accepted) next (newCostTests side c present next)
-new-cost-chain side c present = chained (upTo largestCost c) BadCost refl (chained (ltb 0 present) LinkAbsent refl (chained side CostWrongSide refl ends))
+other-cost-chain : (wanted : Bool) (c present : ℕ) {next : Refusal} → Chain (otherCostTests wanted c present Accepted) next (otherCostTests wanted c present next)
+other-cost-chain wanted c present = chained (upTo largestCost c) BadCost refl (chained (ltb 0 present) LinkAbsent refl (chained wanted CostWrongSide refl ends))
 
 cost-chain : (k : Kind) (c present : ℕ) {next : Refusal} → Chain (costTests k c present Accepted) next (costTests k c present next)
 cost-chain Insert c present = chained (upTo largestCost c) BadCost refl (chained (eqb present 0) LinkPresent refl ends)
-cost-chain Cheapen c present = new-cost-chain (ltb c present) c present
-cost-chain Raise c present = new-cost-chain (ltb present c) c present
+cost-chain Cheapen c present = other-cost-chain (ltb c present) c present
+cost-chain Raise c present = other-cost-chain (ltb present c) c present
 cost-chain Delete c present = chained (ltb 0 present) LinkAbsent refl ends
 
 module _ (n : ℕ) (e : Edit) (t : Tables) (a : Audited n t) where

@@ -8,7 +8,7 @@ ghost use mathlib.Core.Path.{_≡_};
 ghost use Prim.Native.Nat.{_*_, _≤_};
 ghost use lib.ListN.{length};
 ghost use Rattle.book.specs.Hall.{largestCost, upTo, validPair};
-ghost use Rattle.book.specs.Call.{newCostTests, costTests, editTests, costSet};
+ghost use Rattle.book.specs.Call.{otherCostTests, costTests, editTests, costSet};
 ghost use Rattle.book.specs.declared.Kind.the-variants.{Insert, Cheapen, Raise, Delete};
 ghost use Rattle.book.specs.declared.Refusal.the-variants.{Accepted};
 
@@ -47,9 +47,9 @@ fn permit_insert(c: u64, present: u32) -> Refusal
     Refusal::Accepted
 }
 
-// Another cost for a link. `side` says whether it lies on the side of the present one that the kind wants.
-fn permit_new_cost(side: bool, c: u64, present: u32) -> Refusal
-    ensures { λ r. ⌜ r ≡ newCostTests side c present Accepted ⌝ }
+// Another cost for a link. `wanted` says that it lies on the side of the present one that the kind wants.
+fn permit_other_cost(wanted: bool, c: u64, present: u32) -> Refusal
+    ensures { λ r. ⌜ r ≡ otherCostTests wanted c present Accepted ⌝ }
 {
     if !is_cost(c) {
         return Refusal::BadCost;
@@ -57,7 +57,7 @@ fn permit_new_cost(side: bool, c: u64, present: u32) -> Refusal
     if present == 0 {
         return Refusal::LinkAbsent;
     }
-    if !side {
+    if !wanted {
         return Refusal::CostWrongSide;
     }
     Refusal::Accepted
@@ -66,13 +66,13 @@ fn permit_new_cost(side: bool, c: u64, present: u32) -> Refusal
 fn permit_cheapen(c: u64, present: u32) -> Refusal
     ensures { λ r. ⌜ r ≡ costTests Cheapen c present Accepted ⌝ }
 {
-    permit_new_cost(c < present as u64, c, present)
+    permit_other_cost(c < present as u64, c, present)
 }
 
 fn permit_raise(c: u64, present: u32) -> Refusal
     ensures { λ r. ⌜ r ≡ costTests Raise c present Accepted ⌝ }
 {
-    permit_new_cost((present as u64) < c, c, present)
+    permit_other_cost((present as u64) < c, c, present)
 }
 
 fn permit_delete(c: u64, present: u32) -> Refusal

@@ -76,15 +76,12 @@ pub fn costs(seed: &mut u64, n: u64) -> [u32; CELLS] {
         density = 7 + draw(seed, 2);
     }
     fill(seed, n, density, even, &mut cost);
-    let shape = draw(seed, 4);
-    if shape == 0 {
-        shortcut(n, &mut cost);
-    }
-    if shape == 1 {
-        loosen(seed, n, &mut cost);
-    }
-    if shape == 2 {
-        near_limit(seed, n, &mut cost);
+    let shape = draw(seed, 5);
+    match shape {
+        0 => shortcut(n, &mut cost),
+        1 | 2 => loosen(seed, n, &mut cost),
+        3 => near_limit(seed, n, &mut cost),
+        _ => {}
     }
     cost
 }

@@ -49,19 +49,19 @@ pub fn stops(seed: &mut u64) -> u64 {
     }
 }
 
-// Which call comes next: of 28, sixteen are edits.
+// Which call comes next: of 29, seventeen are edits, and the last is an empty hall or an insert.
 pub fn call(seed: &mut u64) -> u64 {
-    let x = draw(seed, 28);
+    let x = draw(seed, 29);
     match x {
         0..=4 => INSERT,
-        5..=7 => CHEAPEN,
-        8..=11 => RAISE,
-        12..=15 => DELETE,
-        16..=18 => WORK_OUT,
-        19 | 20 => AUDIT,
-        21 | 22 => IMAGE_WRITE,
-        23..=25 => IMAGE_READ,
-        26 => IMAGE_CHECK,
+        5..=8 => CHEAPEN,
+        9..=12 => RAISE,
+        13..=16 => DELETE,
+        17..=19 => WORK_OUT,
+        20 | 21 => AUDIT,
+        22 | 23 => IMAGE_WRITE,
+        24..=26 => IMAGE_READ,
+        27 => IMAGE_CHECK,
         _ => if once_in(seed, 4) { EMPTY_HALL } else { INSERT },
     }
 }

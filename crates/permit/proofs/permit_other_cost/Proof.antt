@@ -1,12 +1,12 @@
--- `permit_new_cost` tests 5, 7 and 8. Assumes nothing.
+-- `permit_other_cost` tests 5, 7 and 8. Assumes nothing.
 use mathlib.Core.Path.{_≡_, sym, _∙_}
 use mathlib.Core.Bool.{true, false}
 use native.Mathlib.Omega.{arith}
 use borrow.Author.Tests.{lt-ltb, le-ltb, not-true, not-false}
 use Rattle.book.specs.Hall.{largestCost, upTo}
 use borrow.Author.Needs.{needs}
-use Rattle.permit.proofs.permit_new_cost.Statement.{statement}
-use Rattle.permit.proofs.permit_new_cost.Tie as tie
+use Rattle.permit.proofs.permit_other_cost.Statement.{statement}
+use Rattle.permit.proofs.permit_other_cost.Tie as tie
 
 returns : tie.Need-returns
 returns c =
@@ -26,7 +26,7 @@ returns-3 c =
     let start : tie.Start = search in
     let a = start .args in
     let good : upTo largestCost (a .c) ≡ true = sym (is-cost .is-cost .ensures) ∙ not-false _ (if1 .if1 .left) in
-    rw (good, lt-ltb 0 (a .present) (omega (arith, if2 .if2 .left)), not-true (a .side) (c .if3 .taken))
+    rw (good, lt-ltb 0 (a .present) (omega (arith, if2 .if2 .left)), not-true (a .wanted) (c .if3 .taken))
 
 returns-4 : tie.Need-returns-4
 returns-4 c =
@@ -34,10 +34,10 @@ returns-4 c =
     let start : tie.Start = search in
     let a = start .args in
     let good : upTo largestCost (a .c) ≡ true = sym (is-cost .is-cost .ensures) ∙ not-false _ (if1 .if1 .left) in
-    rw (good, lt-ltb 0 (a .present) (omega (arith, if2 .if2 .left)), not-false (a .side) (c .if3 .left))
+    rw (good, lt-ltb 0 (a .present) (omega (arith, if2 .if2 .left)), not-false (a .wanted) (c .if3 .left))
 
-pub permit-new-cost-spec : {M : Type 1} → statement M
-permit-new-cost-spec =
+pub permit-other-cost-spec : {M : Type 1} → statement M
+permit-other-cost-spec =
     tie.close
     (tie.spec
     (λ c κs. search needs) returns returns-2 returns-3 returns-4)
