@@ -24,7 +24,7 @@ module _ (n u v c x : ℕ) (t : Tables) where
   abbrev call : Kind → ℕ → Call
   call kind cost = record { n = n; ask = edit (change kind cost) }
 
-  -- the tables that the delete left, and their costs
+  -- the costs that the delete left, and their tables
   abbrev without : List ℕ
   without = set (t .cost) (u * n + v) 0
 
@@ -59,6 +59,7 @@ module _ (n u v c x : ℕ) (t : Tables) where
         let (fits, more-tests₂) = need-true (upTo largestCost c) BadCost _ refl more-tests₁ in
         edit-taken n (change Raise c) t size lengths (audited (call Delete x) t deleted) pair (rw (fits, there, lt-ltb (entry n (t .cost) u v) c more)) few
 
+    -- where both are accepted, so is the raise, and it leaves what they left
     pub raise-for-two : (refusal (call Raise c) t ≡ Accepted) × (after (call Raise c) t ≡ after (call Insert c) (after (call Delete x) t))
     unfolding rule filled
     raise-for-two =
