@@ -1,85 +1,13 @@
 // Work out, audit and edit of the proved library beside Boost's and igraph's betweenness, in one process and on the same
 // graphs; and a raise beside the delete and the insert that said the same before there was one. Times are the least of many
 // runs, taken in turn; ratios are theirs, or those of the two edits, divided by ours.
-#include "hall.h"
+#include "halls.h"
 
 #include <boost/graph/adjacency_list.hpp>
 #include <boost/graph/betweenness_centrality.hpp>
 #include <igraph/igraph.h>
 
-#include <algorithm>
-#include <chrono>
 #include <cmath>
-#include <cstdio>
-#include <functional>
-#include <random>
-#include <string>
-#include <vector>
-
-using Clock = std::chrono::steady_clock;
-
-struct Hall {
-    uint64_t n;
-    std::vector<uint32_t> cost, time, ways;
-    std::vector<uint64_t> share, score;
-
-    explicit Hall(uint64_t stops)
-        : n(stops), cost(n * n), time(n * n), ways(n * n), share(n * n), score(n) {}
-
-    hall_tables tables() { return {n, cost.data(), time.data(), ways.data(), share.data(), score.data()}; }
-
-    uint32_t work_out() {
-        hall_tables t = tables();
-        return hall_work_out(n, HALL_TABLES(t));
-    }
-    uint32_t audit() {
-        hall_tables t = tables();
-        return hall_audit(n, HALL_TABLES(t));
-    }
-    hall_edited insert(uint64_t u, uint64_t v, uint64_t c) {
-        hall_tables t = tables();
-        return hall_insert(n, u, v, c, HALL_TABLES(t));
-    }
-    hall_edited cheapen(uint64_t u, uint64_t v, uint64_t c) {
-        hall_tables t = tables();
-        return hall_cheapen(n, u, v, c, HALL_TABLES(t));
-    }
-    hall_edited raise(uint64_t u, uint64_t v, uint64_t c) {
-        hall_tables t = tables();
-        return hall_raise(n, u, v, c, HALL_TABLES(t));
-    }
-    hall_edited remove(uint64_t u, uint64_t v) {
-        hall_tables t = tables();
-        return hall_delete(n, u, v, HALL_TABLES(t));
-    }
-};
-
-struct Link {
-    uint64_t from, to;
-    uint32_t cost;
-};
-
-static std::vector<Link> links_of(const Hall &h) {
-    std::vector<Link> links;
-    for (uint64_t u = 0; u < h.n; u++)
-        for (uint64_t v = 0; v < h.n; v++)
-            if (h.cost[u * h.n + v]) links.push_back({u, v, h.cost[u * h.n + v]});
-    return links;
-}
-
-// Microseconds of one run.
-static double time_of(const std::function<void()> &run) {
-    auto start = Clock::now();
-    run();
-    return std::chrono::duration<double, std::micro>(Clock::now() - start).count();
-}
-
-// The least of `times` runs.
-static double least_time(int times, const std::function<void()> &run) {
-    double best = 1e300;
-    for (int i = 0; i < times; i++) best = std::min(best, time_of(run));
-    return best;
-}
 
 struct Boost {
     typedef boost::adjacency_list<boost::vecS, boost::vecS, boost::directedS, boost::no_property,
@@ -231,41 +159,6 @@ static int measure(const std::string &name, Hall h, std::mt19937 &random) {
                 links_of(h).size(), useful_links(h), ours, audit, e.edit, e.rows, s.raise, theirs / ours, others / ours, theirs / audit,
                 theirs / e.edit, others / e.edit, s.two / s.raise, same ? "agree" : "DIFFER");
     return same ? 0 : 1;
-}
-
-static Hall random_hall(uint64_t n, size_t links, std::mt19937 &random) {
-    Hall h(n);
-    std::uniform_int_distribution<uint32_t> stop(0, n - 1), cost(1, 65535);
-    // a ring first, so that every stop is reached
-    size_t made = 0;
-    for (uint64_t u = 0; u < n; u++, made++) h.cost[u * n + (u + 1) % n] = cost(random);
-    while (made < links) {
-        uint64_t u = stop(random), v = stop(random);
-        if (u == v || h.cost[u * n + v]) continue;
-        h.cost[u * n + v] = cost(random);
-        made++;
-    }
-    return h;
-}
-
-static Hall grid(uint64_t side, std::mt19937 &random) {
-    Hall h(side * side);
-    std::uniform_int_distribution<uint32_t> cost(1, 65535);
-    for (uint64_t r = 0; r < side; r++)
-        for (uint64_t c = 0; c < side; c++) {
-            uint64_t here = r * side + c;
-            if (c + 1 < side) h.cost[here * h.n + here + 1] = h.cost[(here + 1) * h.n + here] = cost(random);
-            if (r + 1 < side) h.cost[here * h.n + here + side] = h.cost[(here + side) * h.n + here] = cost(random);
-        }
-    return h;
-}
-
-static Hall ring(uint64_t n, std::mt19937 &random) {
-    Hall h(n);
-    std::uniform_int_distribution<uint32_t> cost(100, 200);
-    for (uint64_t u = 0; u < n; u++) h.cost[u * n + (u + 1) % n] = cost(random);
-    for (uint64_t u = 0; u < n; u += 8) h.cost[u * n + (u + 5) % n] = 4 * cost(random);
-    return h;
 }
 
 // One line a link, for the comparison with NetworkX.

@@ -109,6 +109,31 @@ static void most_ways(void)
     HOLDS(hall_audit(t.n, HALL_TABLES(t)) == HALL_ACCEPTED);
 }
 
+/* Links from each stop to all later ones, of the cost of their distance, so that the ways double from stop to stop. */
+static hall_tables forward(uint64_t n)
+{
+    hall_tables t = tables_of(n);
+
+    memset(cost, 0, sizeof cost);
+    for (uint64_t u = 0; u < n; u++)
+        for (uint64_t v = u + 1; v < n; v++)
+            cost[u * n + v] = v - u;
+    return t;
+}
+
+/* Ways are counted in 16 bits: too many are too many, however many, and what is right in 16 bits only is wrong. */
+static void ways_in_16_bits(void)
+{
+    hall_tables t = forward(HALL_STOPS);
+
+    HOLDS(hall_work_out(t.n, HALL_TABLES(t)) == HALL_TOO_MANY_WAYS);
+    t = forward(6);
+    HOLDS(hall_work_out(t.n, HALL_TABLES(t)) == HALL_ACCEPTED);
+    HOLDS(ways[5] == 16 && hall_audit(t.n, HALL_TABLES(t)) == HALL_ACCEPTED);
+    ways[5] += 65536;
+    HOLDS(hall_audit(t.n, HALL_TABLES(t)) == HALL_BAD_TABLES);
+}
+
 /* All links of the largest hall make the longest image. */
 static void longest_image(void)
 {
@@ -130,6 +155,7 @@ int main(void)
     null_is_empty();
     names_fit();
     most_ways();
+    ways_in_16_bits();
     longest_image();
     return wrong != 0;
 }

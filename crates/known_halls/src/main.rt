@@ -5,6 +5,7 @@ mod listed;
 mod report;
 mod sizes;
 mod smallest;
+mod sums;
 mod tables;
 mod text;
 mod ways;
@@ -14,6 +15,8 @@ fn main() {
     ways::one_more();
     ways::beside_a_link();
     ways::worn_link();
+    sums::none_in_16_bits();
+    sums::right_in_16_bits();
     line::longest();
     sizes::too_large();
     smallest::no_links();

@@ -9,7 +9,13 @@ pub fn min_u32(a: u32, b: u32) -> u32
     if a < b { a } else { b }
 }
 
-pub fn select_u32(yes: bool, a: u32, b: u32) -> u32
+pub fn min_u16(a: u16, b: u16) -> u16
+    ensures { λ r. ⌜ r ≡ min a b ⌝ }
+{
+    if a < b { a } else { b }
+}
+
+pub fn select_u16(yes: bool, a: u16, b: u16) -> u16
     ensures { λ r. ⌜ Picked yes a b r ⌝ }
 {
     if yes { a } else { b }

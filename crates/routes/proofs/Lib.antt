@@ -15,6 +15,7 @@ pub mod Flows
 pub mod Paths
 pub mod Shared
 pub mod Bounds
+pub mod Totals
 pub mod Transfer
 pub mod Useful
 pub mod Cheaper

@@ -73,18 +73,22 @@ sumTo-bound (suc n) c {f} h =
     let b : f n ≤ c = h n (omega arith) in
     omega (arith, suc-mul n c)
 
--- a member is at most the sum
-pub member-le : (n : ℕ) (f : ℕ → ℕ) (i : ℕ) → i < n → f i ≤ sumTo n f
+-- a member and those before it are at most the sum
+pub sum-le : (n : ℕ) (f : ℕ → ℕ) (i : ℕ) → i < n → sumTo i f + f i ≤ sumTo n f
 unfolding sumTo
-member-le zero f i h = omega arith
-member-le (suc n) f i h =
+sum-le zero f i h = omega arith
+sum-le (suc n) f i h =
     below-suc
-    {P = λ i. f i ≤ sumTo n f + f n}
+    {P = λ i. sumTo i f + f i ≤ sumTo n f + f n}
     n
-    (λ i l. omega (arith, member-le n f i l))
+    (λ i l. omega (arith, sum-le n f i l))
     (omega arith)
     i
     h
+
+-- a member is at most the sum
+pub member-le : (n : ℕ) (f : ℕ → ℕ) (i : ℕ) → i < n → f i ≤ sumTo n f
+member-le n f i l = omega (arith, sum-le n f i l)
 
 -- a sum that keeps one index of those below n is the member there
 pub sumTo-pick : (n k : ℕ) (f : ℕ → ℕ) → k < n → sumTo n (λ i. cond (eqb i k) (f i) 0) ≡ f k

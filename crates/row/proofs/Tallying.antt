@@ -1,5 +1,5 @@
 -- The loop that adds up ways over a word: what holds between two turns. Assumes nothing.
-use Prim.Native.Nat.{ℕ, suc, _+_, _≤_, min}
+use Prim.Native.Nat.{ℕ, suc, _+_, _^_, _<_, _≤_, min}
 use mathlib.Core.Path.{_≡_}
 use mathlib.Core.Bool.{true}
 use mathlib.Core.List.{List}
@@ -8,6 +8,7 @@ use lib.ListN.{length, getD}
 use Rattle.routes.specs.Route.{has}
 use Rattle.routes.specs.Sets.{Popped}
 use Rattle.routes.proofs.Bits.{popped-kept, sum-popped, sum-none}
+use Rattle.links.specs.Promise.{largestSum}
 use Rattle.row.specs.Steps.{Tally, sumOver}
 
 -- the count, clamped, and what is left to add come to the whole sum, clamped
@@ -17,6 +18,13 @@ pub record Tallying (limit first set : ℕ) (ways : List ℕ) (left count : ℕ)
   pub total : min (suc limit) (count + sumOver ways left) ≡ min (suc limit) (first + sumOver ways set)
 
 module _ (limit first set : ℕ) (ways : List ℕ) (asked : Tally limit first set ways) where
+  -- the next predecessor stands in the list, its ways have 16 bits, and the sum with them is within its bound
+  pub tallying-adds : {left count t rest : ℕ} → Tallying limit first set ways left count → Popped left t rest
+      → (t < length ways) × (getD ways t 0 < 2 ^ 16) × (count + getD ways t 0 ≤ largestSum)
+  tallying-adds {left} {count} {t} c p =
+      let l = asked .below t (c .inside t (p .member)) in let w = asked .capped t l in
+      (l, omega (arith, asked .few), omega (arith, asked .few, c .capped))
+
   pub tallying-goes : {left count t rest r : ℕ} → Tallying limit first set ways left count → Popped left t rest
       → r ≡ min (suc limit) (count + getD ways t 0) → Tallying limit first set ways rest r
   tallying-goes {left} {count} {t} {rest} {r} c p e =

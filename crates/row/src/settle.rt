@@ -1,9 +1,10 @@
 // Dijkstra's algorithm: stops are settled from near to far.
+use links::counts;
 use links::numbers;
 use links::sets;
 ghost use mathlib.Core.Path.{_≡_};
 ghost use mathlib.Core.Bool.{cond};
-ghost use Prim.Native.Nat.{suc, _+_, _<_, _≤_, min};
+ghost use Prim.Native.Nat.{suc, _+_, _<_, min};
 ghost use lib.Dec.{ltb};
 ghost use lib.ListN.{length};
 ghost use Rattle.links.specs.Promise.{masked, Below};
@@ -70,27 +71,20 @@ fn nearer(at: u32, low: u32, t: usize, best: usize) -> usize
     if at < low { t } else { best }
 }
 
-// The ways into a stop: a first count and those of its predecessors, counted up to limit + 1.
+// The ways into a stop: a first count and those of its predecessors, counted in 16 bits up to limit + 1.
 fn tally(limit: u32, first: u32, from: u64, ways: &[u32]) -> u32
     requires { ⌜ Tally limit first from (now ways) ⌝ }
     ensures { λ r. ⌜ r ≡ min (suc limit) (first + sumOver (now (ways .entry)) from) ⌝ }
 {
-    let mut count = first;
+    let top = counts::narrow(limit) + 1;
+    let mut count = counts::narrow(first);
     let mut left = from;
     while left != 0 {
         let u = sets::lowest(left);
-        count = clamp(limit, count + ways[u]);
+        count = numbers::min_u16(top, counts::add(count, counts::narrow(ways[u])));
         left = sets::rest(left);
     }
-    count
-}
-
-// A count up to limit + 1. No sum of ways into a stop passes 1386, 63 stops with 22 ways each.
-fn clamp(limit: u32, count: u32) -> u32
-    requires { ⌜ count ≤ 1386 ⌝ }
-    ensures { λ r. ⌜ r ≡ min (suc limit) count ⌝ }
-{
-    if limit < count { limit + 1 } else { count }
+    counts::wide(count)
 }
 
 // Offers the links from b to the stops of a set.

@@ -4,7 +4,7 @@ use mathlib.Core.Path.{_≡_, refl, sym, _∙_, ap}
 use mathlib.Core.Logic.{_≢_}
 use mathlib.Core.Bool.{Bool, true, false, cond, not, _&&_, and-false}
 use mathlib.Core.List.{List}
-use native.Mathlib.Nat.{le-antisymm}
+use native.Mathlib.Nat.{le-refl, le-antisymm}
 use native.Mathlib.Numerals.{add-one}
 use native.Mathlib.Omega.{arith}
 use lib.Dec.{eqb, ltb}
@@ -14,7 +14,7 @@ use borrow.Author.Tests.{eqb-true, eqb-false, ne-eqb, ltb-true, lt-ltb}
 use Rattle.routes.specs.Route.{Costs, has, sumTo, mark}
 use Rattle.routes.specs.Stored.{Stored}
 use Rattle.routes.specs.Equations.{tight, outflow}
-use Rattle.routes.proofs.Sums.{below-suc, sumTo-bound, sumTo-cong, cond-true}
+use Rattle.routes.proofs.Sums.{below-suc, sumTo-bound, sumTo-le, sum-le, sumTo-cong, cond-true}
 use Rattle.routes.proofs.Stored.{stored-none, stored-more}
 use Rattle.routes.proofs.Bits.{split}
 use Rattle.links.specs.Promise.{masked, viaOf}
@@ -61,10 +61,15 @@ module _ (n s : ℕ) (cost out time ways psi old new : List ℕ) where
       room = asked .room;
       sums = b .sums;
       below = λ t h. asked .linked u t l h .0;
-      few = asked .few u l;
       light = asked .light;
       quiet = asked .quiet;
-      small = λ t k. omega (arith, b .summed t k, asked .most, sumTo-bound u 23 (λ v m. under (tight W (at time) v t) (asked .few v (omega arith))));
+      small = λ t k. omega (
+        arith,
+        asked .few,
+        b .summed t k,
+        sumTo-le u {g = at ways} (λ v _. under (tight W (at time) v t) {x = at ways v} (le-refl (at ways v))),
+        sum-le n (at ways) u l,
+      );
     }
 
     -- a link is tight where its bit is set and its way takes the time: the way from a stop of the mark takes longer than any time

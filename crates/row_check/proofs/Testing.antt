@@ -7,9 +7,9 @@ use native.Mathlib.Nat.{le-antisymm, mul-le-mul}
 use native.Mathlib.Numerals.{add-one}
 use native.Mathlib.Omega.{arith}
 use lib.Bits.{bitOr, bitXor, and-le-l, and-le-r, or-add-and, xor-add-and, xor-self}
-use lib.Dec.{eqb, ltb}
+use lib.Dec.{eqb, ltb, leb}
 use borrow.Author.Tests.{eqb-true, eq-eqb, ltb-true, lt-ltb}
-use Rattle.routes.specs.Route.{allTo}
+use Rattle.routes.specs.Route.{sumTo, allTo}
 use Rattle.routes.proofs.Booleans.{bool-iff}
 use Rattle.row_check.specs.Tests.{Pays, at, little, paid}
 
@@ -64,6 +64,23 @@ joining-ends j l = testing-ends (j .tested) l
 
 pub little-goes : (share : List ℕ) {n i word : ℕ} → Joining n i (little share) word → i < n → Joining n (i + 1) (little share) (bitOr word (at share i / 1099511627776))
 little-goes share {i = i} j l = joining-goes (at share i / 1099511627776) j l (shifted-zero (at share i))
+
+-- a loop that adds up: total is the sum of the entries below i of n
+pub record Totalling (n i : ℕ) (list : List ℕ) (total : ℕ) : Type 0 where
+  pub within : i ≤ n
+  pub small : total ≤ i * 2 ^ 32
+  pub sum : total ≡ sumTo i (at list)
+
+pub totalling-starts : (n : ℕ) (list : List ℕ) → Totalling n 0 list 0
+unfolding sumTo
+totalling-starts n list = record { within = omega arith; small = omega arith; sum = refl }
+
+pub totalling-goes : {n i total x : ℕ} {list : List ℕ} → Totalling n i list total → i < n → x ≡ at list i → x < 2 ^ 32 → Totalling n (i + 1) list (total + x)
+unfolding sumTo
+totalling-goes {i = i} t l e b = record { within = omega arith; small = omega (arith, t .small); sum = rw add-one (omega (arith, t .sum, e)) }
+
+pub totalling-ends : {n i total : ℕ} {list : List ℕ} (c : ℕ) → Totalling n i list total → n ≤ i → leb total c ≡ leb (sumTo n (at list)) c
+totalling-ends {list = list} c t l = ap (λ x. leb x c) (t .sum ∙ ap (λ k. sumTo k (at list)) (le-antisymm (t .within) l))
 
 module _ (ways share flow : List ℕ) where
   pub paid-goes : {n i word w : ℕ} → Joining n i (paid ways share flow) word → i < n → w ≡ at ways i

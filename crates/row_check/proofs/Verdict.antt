@@ -2,35 +2,44 @@
 use Prim.Native.Nat.{ℕ, _+_, _*_, _^_, _<_, _≤_, min, suc}
 use mathlib.Core.Path.{_≡_, refl, sym, _∙_, ap, ap₂}
 use mathlib.Core.Logic.{_≢_}
-use mathlib.Core.Bool.{Bool, true, false, cond, Bool·beq, and-eq-true-iff}
+use mathlib.Core.Bool.{Bool, true, false, cond, not, _&&_, Bool·beq, and-eq-true-iff}
 use mathlib.Core.List.{List}
 use native.Mathlib.Nat.{mul-le-mul-right}
 use native.Mathlib.Omega.{arith}
 use lib.Dec.{eqb, leb}
 use lib.ListN.{length, replicate, getD-replicate, length-replicate}
-use borrow.Author.Tests.{eqb-true, eqb-false, eq-eqb, leb-true, le-leb, lt-ltb, ltb-true}
-use Rattle.routes.specs.Route.{mark, Costs, allTo, same, listTo, leastTime}
-use Rattle.routes.specs.Equations.{outflow, Within, cappedWays, openShare}
-use Rattle.routes.proofs.Booleans.{bool-iff}
-use Rattle.routes.proofs.Sums.{all-true, all-of, cond-true, is-false}
+use borrow.Author.Tests.{eqb-true, eqb-false, eq-eqb, leb-true, le-leb, lt-ltb, ltb-true, not-true}
+use Rattle.routes.specs.Route.{mark, Costs, sumTo, allTo, same, listTo, leastTime}
+use Rattle.routes.specs.Equations.{outflow, Within, Counts, cappedWays, openShare}
+use Rattle.routes.proofs.Booleans.{both, bool-iff}
+use Rattle.routes.proofs.Sums.{all-true, all-of, cond-true, is-false, member-le}
 use Rattle.routes.proofs.Lists.{same-refl, same-true}
 use Rattle.routes.proofs.Rows.{getD-listTo, listTo-of}
 use Rattle.routes.proofs.Bits.{split}
+use Rattle.routes.proofs.Totals.{ways-in-all}
 use Rattle.routes.proofs.Tight.{SameTight, same-tight, inflow-cong, outflow-cong}
-use Rattle.links.specs.Promise.{Task, dearest, masked}
+use Rattle.links.specs.Promise.{Task, dearest, largestSum, masked}
 use Rattle.links.proofs.Masked.{masked-small, masked-within}
 use Rattle.row_check.specs.Handed.{Divides, Divided, handedBack, handedBy}
 use Rattle.row_check.proofs.Checked.{Checked, checked-right, right-checked}
 use Rattle.row_check.proofs.Handing.{handed-le}
 use Rattle.row_check.specs.Promise.{isRow}
-use Rattle.row_check.specs.Tests.{Pays, agreed, at, little, paid, plain}
-use Rattle.row_check.specs.Tight.{Balance, Balanced, Relaxed}
+use Rattle.row_check.specs.Tests.{Pays, agreed, at, atSource, few, little, paid, reached}
+use Rattle.row_check.specs.Tight.{Balance, Balanced}
 
 -- parts of n entries each
 pub record Parts (n : ℕ) (time ways share : List ℕ) : Type 0 where
   pub timed : length time ≡ n
   pub counted : length ways ≡ n
   pub shared : length share ≡ n
+
+-- what the tests before the walk over the links have told
+pub record Opened (n s top : ℕ) (time ways share : List ℕ) : Type 0 where
+  pub source : atSource s time ways share ≡ true
+  pub reached : allTo n (reached top time ways) ≡ true
+  pub few : few n ways ≡ true
+  pub light : allTo n (little share) ≡ true
+  pub bounded : (t : ℕ) → t < n → at time t ≤ mark
 
 -- rows that agree below n pass together
 checked-cong : (W : Costs) (n s limit scale : ℕ) (d σ δ d′ σ′ δ′ : ℕ → ℕ) → s < n → ((t : ℕ) → t < n → (d t ≡ d′ t) × (σ t ≡ σ′ t) × (δ t ≡ δ′ t))
@@ -68,7 +77,7 @@ of-beq false false e = refl
 pub parts-of : {n : ℕ} (time ways share : List ℕ) → (length time ≡ n) × (length ways ≡ n) × (length share ≡ n) → Parts n time ways share
 parts-of time ways share p = record { timed = p .0; counted = p .1; shared = p .2 }
 
-module _ (n s : ℕ) (cost out : List ℕ) (scale limit top : ℕ) (time ways share : List ℕ) (T : Task n s cost out scale limit top) (P : Parts n time ways share) where
+module _ {n s : ℕ} {cost out : List ℕ} {scale limit top : ℕ} {time ways share : List ℕ} (T : Task n s cost out scale limit top) (P : Parts n time ways share) where
   abbrev W : Costs
   W = masked n cost out
 
@@ -109,23 +118,38 @@ module _ (n s : ℕ) (cost out : List ℕ) (scale limit top : ℕ) (time ways sh
       entry l f e t k = sym (getD-listTo n f 0 t k) ∙ sym (ap (λ l. at l t) (same-true l (listTo n f) e))
 
   -- a test that the row would pass has failed
-  pub refuted : (Passed → ⊥) → verdict ≡ false
-  refuted h = is-false verdict (λ e. h (row-passed e))
+  pub failed : {test answer : Bool} → (Passed → test ≡ true) → answer ≡ test → not answer ≡ true → false ≡ verdict
+  failed {answer = answer} h e f = sym (is-false verdict (λ v. both (h (row-passed v)) (sym e ∙ not-true answer f)))
 
-  -- the row is within bounds
-  pub passed-plain : Passed → allTo n (plain (limit + 1) top time ways) ≡ true
-  passed-plain C =
-      all-of n _ (λ t l.
-      and-eq-true-iff (leb (at ways t) (limit + 1)) _ .1 (
-        le-leb (at ways t) (limit + 1) (omega (arith, C .few t l)),
-        beq-of (ap (eqb (at time t)) (T .marked) ∙ C .reached t l),
-      ))
+  -- the source has its entries
+  pub passed-source : Passed → atSource s time ways share ≡ true
+  passed-source C =
+      and-eq-true-iff (eqb (at time s) 0 && eqb (at ways s) 1) _ .1 (
+        and-eq-true-iff (eqb (at time s) 0) _ .1 (eq-eqb (at time s) 0 (C .source), eq-eqb (at ways s) 1 (C .one)),
+        eq-eqb (at share s) 0 (C .none),
+      )
 
-  plain-at : allTo n (plain (limit + 1) top time ways) ≡ true → (t : ℕ) → t < n → (at ways t ≤ limit + 1) × (eqb (at time t) top ≡ eqb (at ways t) 0)
-  plain-at p t l = let (w, e) = and-eq-true-iff (leb (at ways t) (limit + 1)) _ .0 (all-true n _ p t l) in (leb-true _ _ w, of-beq _ _ e)
+  source-at : atSource s time ways share ≡ true → (at time s ≡ 0) × (at ways s ≡ 1) × (at share s ≡ 0)
+  source-at p =
+      let (both, δ) = and-eq-true-iff (eqb (at time s) 0 && eqb (at ways s) 1) _ .0 p in
+      let (d, σ) = and-eq-true-iff (eqb (at time s) 0) _ .0 both in
+      (eqb-true _ 0 d, eqb-true _ 1 σ, eqb-true _ 0 δ)
 
-  few-at : allTo n (plain (limit + 1) top time ways) ≡ true → (t : ℕ) → t < n → at ways t ≤ 23
-  few-at p t l = omega (arith, plain-at p t l .0, T .few)
+  -- ways stand where times do
+  pub passed-reached : Passed → allTo n (reached top time ways) ≡ true
+  passed-reached C = all-of n _ (λ t l. beq-of (ap (eqb (at time t)) (T .marked) ∙ C .reached t l))
+
+  reached-at : allTo n (reached top time ways) ≡ true → (t : ℕ) → t < n → eqb (at time t) top ≡ eqb (at ways t) 0
+  reached-at p t l = of-beq _ _ (all-true n _ p t l)
+
+  -- there are few ways in all, and at each stop
+  pub passed-few : Passed → few n ways ≡ true
+  passed-few C =
+      let counts : Counts W n s limit (at time) (at ways) = record { source = C .one; summed = C .summed } in
+      le-leb (sumTo n (at ways)) largestSum (omega (arith, ways-in-all W n s limit (at time) (at ways) (T .source) (T .few) counts (T .most) (C .bounded)))
+
+  few-at : few n ways ≡ true → (t : ℕ) → t < n → at ways t ≤ largestSum
+  few-at p t l = omega (arith, leb-true (sumTo n (at ways)) largestSum p, member-le n (at ways) t l)
 
   pub passed-little : Passed → allTo n (little share) ≡ true
   passed-little C = all-of n (little share) (λ t l. lt-ltb (at share t) (2 ^ 40) (C .little t l))
@@ -150,9 +174,9 @@ module _ (n s : ℕ) (cost out : List ℕ) (scale limit top : ℕ) (time ways sh
   )
 
   -- and what the sums ask holds
-  pub plain-balance : {psi : List ℕ} → ((t : ℕ) → t < n → at time t ≤ mark) → allTo n (plain (limit + 1) top time ways) ≡ true → allTo n (little share) ≡ true
-      → Divided n s limit scale ways share psi → Balance n s cost out time ways psi (replicate 64 0) (replicate 64 0)
-  plain-balance {psi} b p i q = record {
+  pub opened-balance : {psi : List ℕ} → Opened n s top time ways share → Divided n s limit scale ways share psi
+      → Balance n s cost out time ways psi (replicate 64 0) (replicate 64 0)
+  opened-balance {psi} O q = record {
     most = T .most;
     source = T .source;
     square = T .square;
@@ -160,12 +184,12 @@ module _ (n s : ℕ) (cost out : List ℕ) (scale limit top : ℕ) (time ways sh
     linked = T .linked;
     timed = P .timed;
     counted = P .counted;
-    bounded = b;
+    bounded = O .bounded;
     room = q .room;
     sums = length-replicate {A = ℕ} 64 0;
     flows = length-replicate {A = ℕ} 64 0;
-    few = few-at p;
-    light = λ t l. omega (arith, q .back t l, under (eqb t s) (handed-le limit scale (at ways t) (at share t)), little-at i t l, T .fine);
+    few = leb-true (sumTo n (at ways)) largestSum (O .few);
+    light = λ t l. omega (arith, q .back t l, under (eqb t s) (handed-le limit scale (at ways t) (at share t)), little-at (O .light) t l, T .fine);
     quiet = q .back s (T .source) ∙ cond-true 0 _ (eq-eqb s s refl);
     empty = λ t l. getD-replicate {A = ℕ} 64 t 0 0 (omega (arith, T .most));
   }
@@ -178,39 +202,46 @@ module _ (n s : ℕ) (cost out : List ℕ) (scale limit top : ℕ) (time ways sh
       → outflow W n (at time) (at psi) u ≡ outflow W n (at time) (handedBy s limit scale (at ways) (at share)) u
   same-back {psi} q u l = outflow-cong W (at time) W (at time) n (λ _ _ _ _. refl) (at psi) (handedBy s limit scale (at ways) (at share)) u l (λ w k _. q .back w k)
 
-  pub passed-relaxed : Passed → (u : ℕ) → u < n → Relaxed n cost out time u
-  passed-relaxed C u l t k = C .relaxed u t l k
-
   -- with what flows back, the shares can be compared
-  module _ {psi sum flow : List ℕ} {bad : Bool} (δ : at share s ≡ 0) (p : allTo n (plain (limit + 1) top time ways) ≡ true) (q : Divided n s limit scale ways share psi)
+  module _ {psi sum flow : List ℕ} {bad : Bool} (O : Opened n s top time ways share) (q : Divided n s limit scale ways share psi)
       (r : Balanced n s cost out time ways psi sum flow bad) where
     pub balanced-pays : Pays n ways share flow
-    balanced-pays = record { most = T .most; counted = P .counted; shared = P .shared; room = r .room; few = few-at p; light = r .light }
+    balanced-pays = record { most = T .most; counted = P .counted; shared = P .shared; room = r .room; few = few-at (O .few); light = r .light }
 
     flow-is : (u : ℕ) → u < n → u ≢ s → at flow u ≡ outflow W n (at time) (handedBy s limit scale (at ways) (at share)) u
     flow-is u l h = r .flows u l h ∙ same-back q u l
 
-    pub passed-paid : Passed → allTo n (paid ways share flow) ≡ true
+    -- a link that improves a time refutes the row
+    pub improved : bad ≡ true → false ≡ verdict
+    improved b = sym (is-false verdict (λ v. both b (r .good (λ u l t k. row-passed v .relaxed u t l k))))
+
+    passed-paid : Passed → allTo n (paid ways share flow) ≡ true
     passed-paid C = all-of n (paid ways share flow) (λ u l. eq-eqb (at share u) (at ways u * at flow u) (split (eqb u s)
-        (λ e. rw (eqb-true u s e, δ, r .none) (omega arith))
+        (λ e. rw (eqb-true u s e, source-at (O .source) .2, r .none) (omega arith))
         (λ e. let h = eqb-false u s e in C .shared u l h ∙ ap (λ x. at ways u * x) (sym (flow-is u l h)))))
 
-    -- where all other tests have passed, the ways decide
-    pub decided : at time s ≡ 0 → at ways s ≡ 1 → ((t : ℕ) → t < n → at time t ≤ mark) → allTo n (little share) ≡ true → bad ≡ false
-        → allTo n (paid ways share flow) ≡ true → allTo n (agreed (limit + 1) ways sum) ≡ verdict
-    decided d σ b i f v = bool-iff _ verdict
-        (λ h. passed-row (record {
-          source = d;
-          one = σ;
-          none = δ;
-          bounded = b;
-          few = λ t l. omega (arith, plain-at p t l .0);
-          little = little-at i;
-          reached = λ t l. sym (ap (eqb (at time t)) (T .marked)) ∙ plain-at p t l .1;
+    passed-agreed : Passed → allTo n (agreed (limit + 1) ways sum) ≡ true
+    passed-agreed C = all-of n (agreed (limit + 1) ways sum) (λ t l. eq-eqb (at ways t) (min (limit + 1) (at sum t)) (split (eqb t s)
+        (λ e. rw (eqb-true t s e) (omega (arith, source-at (O .source) .1, r .one, T .some)))
+        (λ e. omega (arith, C .summed t l (eqb-false t s e), r .summed t l (eqb-false t s e)))))
+
+    -- where no link improves a time, shares and ways decide
+    pub decided : {paying agreeing : Bool} → bad ≡ false → paying ≡ allTo n (paid ways share flow) → agreeing ≡ allTo n (agreed (limit + 1) ways sum)
+        → (paying && agreeing) ≡ verdict
+    decided {paying} {agreeing} f ep ea = bool-iff (paying && agreeing) verdict
+        (λ both. let (p, a) = and-eq-true-iff paying agreeing .0 both in row (all-true n (paid ways share flow) (sym ep ∙ p)) (all-true n (agreed (limit + 1) ways sum) (sym ea ∙ a)))
+        (λ e. let C = row-passed e in and-eq-true-iff paying agreeing .1 (ep ∙ passed-paid C, ea ∙ passed-agreed C))
+      where
+        row : ((u : ℕ) → u < n → paid ways share flow u ≡ true) → ((t : ℕ) → t < n → agreed (limit + 1) ways sum t ≡ true) → verdict ≡ true
+        row p a = passed-row (record {
+          source = source-at (O .source) .0;
+          one = source-at (O .source) .1;
+          none = source-at (O .source) .2;
+          bounded = O .bounded;
+          few = λ t l. omega (arith, eqb-true (at ways t) _ (a t l));
+          little = little-at (O .light);
+          reached = λ t l. sym (ap (eqb (at time t)) (T .marked)) ∙ reached-at (O .reached) t l;
           relaxed = λ u t k l. r .relaxed f u k t l;
-          summed = λ t l g. omega (arith, eqb-true (at ways t) _ (all-true n (agreed (limit + 1) ways sum) h t l), r .summed t l g);
-          shared = λ u l g. eqb-true (at share u) _ (all-true n (paid ways share flow) v u l) ∙ ap (λ x. at ways u * x) (flow-is u l g);
-        }))
-        (λ e. let C = row-passed e in all-of n (agreed (limit + 1) ways sum) (λ t l. eq-eqb (at ways t) (min (limit + 1) (at sum t)) (split (eqb t s)
-        (λ g. rw (eqb-true t s g) (omega (arith, r .one, T .some)))
-        (λ g. omega (arith, C .summed t l (eqb-false t s g), r .summed t l (eqb-false t s g))))))
+          summed = λ t l g. omega (arith, eqb-true (at ways t) _ (a t l), r .summed t l g);
+          shared = λ u l g. eqb-true (at share u) _ (p u l) ∙ ap (λ x. at ways u * x) (flow-is u l g);
+        })

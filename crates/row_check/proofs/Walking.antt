@@ -15,7 +15,7 @@ use Rattle.routes.specs.Sets.{Popped}
 use Rattle.routes.proofs.Bits.{popped-gone, split, has-none, sum-popped, sum-none, Rewriting, rewriting-starts, rewriting-goes, rewriting-ends}
 use Rattle.links.proofs.Flat.{flat-lt}
 use Rattle.links.specs.Picked.{Picked}
-use Rattle.links.specs.Promise.{viaOf}
+use Rattle.links.specs.Promise.{viaOf, largestSum}
 use Rattle.row_check.specs.Tests.{at}
 use Rattle.row_check.specs.Tight.{Scan, Scans, ifTight}
 
@@ -51,9 +51,9 @@ module _ (n s u links : ℕ) (cost time ways psi old : List ℕ) (before : Bool)
     total : sumTo n (λ t. cond (has links t) (ifTight n u cost time t (at psi t)) 0) ≤ n * 2 ^ 41
     total = sumTo-bound n (2 ^ 41) (λ t l. under (has links t) (under (eqb (viaOf n u cost time t) (at time t)) (asked .light t l)))
 
-    -- the member taken stands in every table, and its sum is small
+    -- the member taken stands in every table, and its sum can take the ways of u
     pub walking-inside : {left t rest flow : ℕ} {sum : List ℕ} {bad : Bool} → Walking left sum flow bad → Popped left t rest
-        → (t < n) × (u * n + t < length cost) × (length cost ≤ 4096) × (at sum t ≤ 1472)
+        → (t < n) × (u * n + t < length cost) × (length cost ≤ 4096) × (at sum t + at ways u ≤ largestSum)
     walking-inside {left} {t} {rest} {flow} {sum} w p =
         let h = w .added .inside t (p .member) in
         let l = asked .below t h in
@@ -73,10 +73,10 @@ module _ (n s u links : ℕ) (cost time ways psi old : List ℕ) (before : Bool)
           go true l = (omega (arith, asked .most), omega (arith, w .flows, total, asked .most, asked .light t l))
           go false l = (omega (arith, asked .most, asked .source), omega (arith, w .flows, total, asked .most, asked .quiet))
 
-      pub walking-adds : {b : Bool} {x : ℕ} → Picked b (at ways u) 0 x → at sum t + x < 2 ^ 32
-      walking-adds {b} e = let (_, _, _, k) = walking-inside w p in omega (arith, e .is, under b (asked .few))
+      pub walking-adds : {b : Bool} {more x : ℕ} → more ≡ at ways u → Picked b more 0 x → at sum t + x ≤ largestSum
+      walking-adds {b} {more} m e = let (_, _, _, k) = walking-inside w p in omega (arith, e .is, under b {x = more} {m = at ways u} (omega arith))
 
-    -- a turn reads the cost c and the time far, picks the stop i to take the flow from, and adds x
+    -- a turn reads the cost c and the time far, picks the stop i to take the flow from, and adds x to the sum, which makes y
     module _
         {left t rest near c far i : ℕ}
         (p : Popped left t rest)
@@ -93,16 +93,17 @@ module _ (n s u links : ℕ) (cost time ways psi old : List ℕ) (before : Bool)
             pick true = refl
             pick false = asked .quiet
 
-        pub walking-goes : {flow x : ℕ} {sum : List ℕ} {bad : Bool} → Walking left sum flow bad → Picked (eqb (near + c) far) (at ways u) 0 x
-            → Walking rest (set sum t (at sum t + x)) (flow + at psi i) (bad || ltb (near + c) far)
-        walking-goes {flow} {x} {sum} {bad} w ex =
+        pub walking-goes : {flow more x y : ℕ} {sum : List ℕ} {bad : Bool} → Walking left sum flow bad → more ≡ at ways u
+            → Picked (eqb (near + c) far) more 0 x → y ≡ at sum t + x
+            → Walking rest (set sum t y) (flow + at psi i) (bad || ltb (near + c) far)
+        walking-goes {flow} {more} {x} {y} {sum} {bad} w em ex ey =
             let (l, _, _, _) = walking-inside w p in
             record {
-              sums = length-set sum t (at sum t + x) ∙ w .sums;
+              sums = length-set sum t y ∙ w .sums;
               flows = omega (arith, taken, w .flows, sum-popped n (λ t. ifTight n u cost time t (at psi t)) p l);
               added = rewriting-goes links _ _ (w .added) p
-                  (getD-set-same sum t (at sum t + x) 0 (omega (arith, w .sums, asked .most)) ∙ rw (ex .is, eu, ec, et, w .added .todo t (p .member)))
-                  (λ v h. getD-set-other sum t v (at sum t + x) 0 h);
+                  (getD-set-same sum t y 0 (omega (arith, w .sums, asked .most)) ∙ rw (ey, ex .is, em, eu, ec, et, w .added .todo t (p .member)))
+                  (λ v h. getD-set-other sum t v y 0 h);
               relaxed = λ e. let (b, r) = neither bad _ e in let (z, k) = w .relaxed b in (
                 z,
                 λ v h g. split (has left v)

@@ -8,11 +8,10 @@ use lib.Dec.{eqb}
 use lib.ListN.{length}
 use Rattle.routes.specs.Route.{mark, link, has, sumTo}
 use Rattle.routes.specs.Equations.{inflow, outflow}
-use Rattle.links.specs.Promise.{Below, masked, viaOf}
+use Rattle.links.specs.Promise.{Below, masked, viaOf, largestSum}
 use Rattle.row_check.specs.Tests.{at}
 
--- what going over links from u asks: ways up to limit + 1, at most 23; from each stop the scale and a share, at most 2^41;
--- and the ways of 64 stops in a sum, at most 64 × 23 = 1472
+-- what going over links from u asks: from each stop the scale and a share, at most 2^41; and sums that its ways can join
 pub record Scan (n s u links : ℕ) (cost time ways psi sum : List ℕ) : Type 0 where
   pub most : n ≤ 64
   pub source : s < n
@@ -23,10 +22,9 @@ pub record Scan (n s u links : ℕ) (cost time ways psi sum : List ℕ) : Type 0
   pub room : length psi ≡ 64
   pub sums : length sum ≡ 64
   pub below : Below n links
-  pub few : at ways u ≤ 23
   pub light : (t : ℕ) → t < n → at psi t ≤ 2 ^ 41
   pub quiet : at psi s ≡ 0
-  pub small : (t : ℕ) → t < n → at sum t ≤ 1472
+  pub small : (t : ℕ) → t < n → at sum t + at ways u ≤ largestSum
 
 -- what the link from u to t gives where it is tight
 abbrev pub ifTight : ℕ → ℕ → List ℕ → List ℕ → ℕ → ℕ → ℕ
@@ -53,7 +51,7 @@ pub record Balance (n s : ℕ) (cost out time ways psi sum flow : List ℕ) : Ty
   pub room : length psi ≡ 64
   pub sums : length sum ≡ 64
   pub flows : length flow ≡ 64
-  pub few : (t : ℕ) → t < n → at ways t ≤ 23
+  pub few : sumTo n (at ways) ≤ largestSum
   pub light : (t : ℕ) → t < n → at psi t ≤ 2 ^ 41
   pub quiet : at psi s ≡ 0
   pub empty : (t : ℕ) → t < n → at sum t ≡ 0

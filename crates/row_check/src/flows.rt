@@ -1,4 +1,5 @@
 // The links of a row: what flows back over the tight ones, the ways that they bring, and whether one improves a time.
+use links::counts;
 use links::numbers;
 use links::sets;
 ghost use Rattle.row_check.specs.Tight.{Scan, Scans, Balance, Balanced};
@@ -21,7 +22,7 @@ fn scan(
     time: &[u32],
     ways: &[u32],
     psi: &[u64; 64],
-    sum: &mut [u32; 64],
+    sum: &mut [u16; 64],
     bad: bool,
 ) -> Scanned
     requires { ⌜ Scan n s u links (now cost) (now time) (now ways) (now psi) (now sum) ⌝ }
@@ -29,7 +30,7 @@ fn scan(
 {
     let base = u * n;
     let near = numbers::wide(time[u]);
-    let more = ways[u];
+    let more = counts::narrow(ways[u]);
     let mut flow: u64 = 0;
     let mut worse = bad;
     let mut left = links;
@@ -41,7 +42,7 @@ fn scan(
         worse |= via < far;
         // Off a tight link the flow is that of the source, psi[s], which is 0: it adds nothing.
         flow += psi[numbers::select_usize(tight, t, s)];
-        sum[t] += numbers::select_u32(tight, more, 0);
+        sum[t] = counts::add(sum[t], numbers::select_u16(tight, more, 0));
         left = sets::rest(left);
     }
     Scanned { flow, bad: worse }
@@ -56,7 +57,7 @@ pub fn flows(
     time: &[u32],
     ways: &[u32],
     psi: &[u64; 64],
-    sum: &mut [u32; 64],
+    sum: &mut [u16; 64],
     flow: &mut [u64; 64],
 ) -> bool
     requires { ⌜ Balance n s (now cost) (now out) (now time) (now ways) (now psi) (now sum) (now flow) ⌝ }

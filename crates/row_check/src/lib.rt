@@ -25,17 +25,13 @@ pub fn check(
     requires { ⌜ (length (now time) ≡ n) × (length (now ways) ≡ n) × (length (now share) ≡ n) ⌝ }
     ensures { λ r. ⌜ r ≡ isRow (masked n (now (cost .entry)) (now (out .entry))) n s limit scale (now (time .entry)) (now (ways .entry)) (now (share .entry)) ⌝ }
 {
-    if time[s] != 0 {
+    if !tests::at_source(n, s, time, ways, share) {
         return false;
     }
-    if ways[s] != 1 {
+    if !tests::reached(n, mark, time, ways) {
         return false;
     }
-    if share[s] != 0 {
-        return false;
-    }
-    let top = limit + 1;
-    if !tests::bounded(n, top, mark, time, ways) {
+    if !tests::few(n, ways) {
         return false;
     }
     if !tests::light(n, share) {
@@ -43,13 +39,10 @@ pub fn check(
     }
     let mut psi = [0u64; 64];
     handed::hand_back(n, s, limit, scale, ways, share, &mut psi);
-    let mut sum = [0u32; 64];
+    let mut sum = [0u16; 64];
     let mut flow = [0u64; 64];
     if flows::flows(n, s, cost, out, time, ways, &psi, &mut sum, &mut flow) {
         return false;
     }
-    if !tests::balanced(n, ways, share, &flow) {
-        return false;
-    }
-    tests::counted(n, top, ways, &sum)
+    tests::balanced(n, ways, share, &flow) & tests::counted(n, limit + 1, ways, &sum)
 }

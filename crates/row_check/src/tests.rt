@@ -1,21 +1,42 @@
 // The tests over all stops, one after another.
+use links::counts;
 use links::numbers;
 ghost use mathlib.Core.Path.{_≡_};
-ghost use Prim.Native.Nat.{_≤_};
+ghost use Prim.Native.Nat.{_<_, _≤_};
 ghost use lib.ListN.{length};
 ghost use Rattle.routes.specs.Route.{allTo};
-ghost use Rattle.row_check.specs.Tests.{plain, little, paid, agreed, Pays};
+ghost use Rattle.row_check.specs.Tests.{atSource, reached, few, little, paid, agreed, Pays};
 
-// No way is above `top`, and the stops without ways are those of the mark.
-pub fn bounded(n: usize, top: u32, mark: u32, time: &[u32], ways: &[u32]) -> bool
+// The source has time 0, one way and no share.
+pub fn at_source(n: usize, s: usize, time: &[u32], ways: &[u32], share: &[u64]) -> bool
+    requires { ⌜ (s < n) × (length (now time) ≡ n) × (length (now ways) ≡ n) × (length (now share) ≡ n) ⌝ }
+    ensures { λ r. ⌜ r ≡ atSource s (now (time .entry)) (now (ways .entry)) (now (share .entry)) ⌝ }
+{
+    (time[s] == 0) & (ways[s] == 1) & (share[s] == 0)
+}
+
+// The stops without ways are those of the mark.
+pub fn reached(n: usize, mark: u32, time: &[u32], ways: &[u32]) -> bool
     requires { ⌜ (length (now time) ≡ n) × (length (now ways) ≡ n) ⌝ }
-    ensures { λ r. ⌜ r ≡ allTo n (plain top mark (now (time .entry)) (now (ways .entry))) ⌝ }
+    ensures { λ r. ⌜ r ≡ allTo n (reached mark (now (time .entry)) (now (ways .entry))) ⌝ }
 {
     let mut ok = true;
     for t in 0..n {
-        ok &= (ways[t] <= top) & ((time[t] == mark) == (ways[t] == 0));
+        ok &= (time[t] == mark) == (ways[t] == 0);
     }
     ok
+}
+
+// All stops have at most 63 × 22 ways together. Those of a right row have fewer, and so no sum of ways into a stop passes that.
+pub fn few(n: usize, ways: &[u32]) -> bool
+    requires { ⌜ (length (now ways) ≡ n) × (n ≤ 64) ⌝ }
+    ensures { λ r. ⌜ r ≡ few n (now (ways .entry)) ⌝ }
+{
+    let mut total: u64 = 0;
+    for t in 0..n {
+        total += numbers::wide(ways[t]);
+    }
+    total <= 1386
 }
 
 // Every share is below 2^40. A right one is: at most 64 times the scale, which is at most 2^32. And below it no sum of
@@ -44,13 +65,13 @@ pub fn balanced(n: usize, ways: &[u32], share: &[u64], flow: &[u64; 64]) -> bool
 }
 
 // Every stop has the ways that were summed, up to `top`.
-pub fn counted(n: usize, top: u32, ways: &[u32], sum: &[u32; 64]) -> bool
+pub fn counted(n: usize, top: u32, ways: &[u32], sum: &[u16; 64]) -> bool
     requires { ⌜ (length (now ways) ≡ n) × (length (now sum) ≡ 64) × (n ≤ 64) ⌝ }
     ensures { λ r. ⌜ r ≡ allTo n (agreed top (now (ways .entry)) (now (sum .entry))) ⌝ }
 {
     let mut ok = true;
     for t in 0..n {
-        ok &= ways[t] == numbers::min_u32(top, sum[t]);
+        ok &= ways[t] == numbers::min_u32(top, counts::wide(sum[t]));
     }
     ok
 }

@@ -339,12 +339,13 @@ pub fn start(stops: u64) -> Ask {
     }
 }
 
-// Another number in place of one of a table.
+// Another number in place of one of a table; one in six is the same in 16 bits.
 fn strange(seed: &mut u64, x: u64) -> u64 {
-    let kind = draw(seed, 4);
+    let kind = draw(seed, 6);
     match kind {
         0 => 18446744073709551615,
         1 => draw(seed, 8),
+        2 => wrapping_add_u64(x, 65536),
         _ => wrapping_add_u64(x, 1 + draw(seed, 3)),
     }
 }

@@ -1,105 +1,97 @@
--- `check` answers whether the parts are the row: a test that fails refutes it, and where all pass the ways decide.
+-- `check` answers whether the parts are the row: a test that fails refutes it, and behind the tests shares and ways decide.
 use Prim.Native.Nat.{ℕ}
 use mathlib.Core.Path.{sym, _∙_}
 use native.Mathlib.Omega.{arith}
-use borrow.Author.Tests.{not-true, not-false}
-use lib.ListN.{length-replicate}
-use Rattle.routes.proofs.Booleans.{both}
-use Rattle.row_check.proofs.Verdict.{parts-of, refuted, passed-plain, passed-little, little-divides, plain-balance, passed-relaxed, balanced-pays, passed-paid, decided}
 use borrow.Author.Needs.{needs}
+use borrow.Author.Tests.{not-false}
+use lib.ListN.{length-replicate}
+use Rattle.row_check.proofs.Verdict.{Parts, parts-of, Opened, failed, passed-source, passed-reached, passed-few, passed-little, little-divides, opened-balance, improved, balanced-pays, decided}
 use Rattle.row_check.proofs.check.Statement.{statement}
 use Rattle.row_check.proofs.check.Tie as tie
 
+-- the lent parts have n entries each
+parts : (c : tie.Start) → Parts (c .args .n) (c .args .time .now) (c .args .ways .now) (c .args .share .now)
+parts c = parts-of _ _ _ (c .pre .1)
+
 returns : tie.Need-returns
 returns c =
-    let start : tie.Start = search in
-    let a = start .args in let q = start .pre in sym (refuted _ _ _ _ _ _ _ _ _ _ (q .0) (parts-of (a .time .now) (a .ways .now) (a .share .now) (q .1)) (λ C. c .if1 .taken (C .source)))
+    let at-source : tie.After-at-source = search in let start : tie.Start = search in
+    let T = start .pre .0 in let P = parts start in failed T P (passed-source T P) (at-source .at-source .ensures) (c .if1 .taken)
 
 returns-2 : tie.Need-returns-2
 returns-2 c =
-    let start : tie.Start = search in
-    let a = start .args in let q = start .pre in sym (refuted _ _ _ _ _ _ _ _ _ _ (q .0) (parts-of (a .time .now) (a .ways .now) (a .share .now) (q .1)) (λ C. c .if2 .taken (C .one)))
+    let reached : tie.After-reached = search in let start : tie.Start = search in
+    let T = start .pre .0 in let P = parts start in failed T P (passed-reached T P) (reached .reached .ensures) (c .if2 .taken)
 
 returns-3 : tie.Need-returns-3
 returns-3 c =
-    let start : tie.Start = search in
-    let a = start .args in let q = start .pre in sym (refuted _ _ _ _ _ _ _ _ _ _ (q .0) (parts-of (a .time .now) (a .ways .now) (a .share .now) (q .1)) (λ C. c .if3 .taken (C .none)))
+    let few : tie.After-few = search in let start : tie.Start = search in
+    let T = start .pre .0 in let P = parts start in failed T P (passed-few T P) (few .few .ensures) (c .if3 .taken)
 
 returns-4 : tie.Need-returns-4
 returns-4 c =
-    let bounded : tie.After-bounded = search in let start : tie.Start = search in
-    let a = start .args in let q = start .pre in sym (refuted _ _ _ _ _ _ _ _ _ _ (q .0) (parts-of (a .time .now) (a .ways .now) (a .share .now) (q .1)) (λ C. both (passed-plain _ _ _ _ _ _ _ _ _ _ (q .0) (parts-of (a .time .now) (a .ways .now) (a .share .now) (q .1)) C) (sym (bounded .bounded .ensures) ∙ not-true _ (c .if4 .taken))))
-
-returns-5 : tie.Need-returns-5
-returns-5 c =
     let light : tie.After-light = search in let start : tie.Start = search in
-    let a = start .args in let q = start .pre in sym (refuted _ _ _ _ _ _ _ _ _ _ (q .0) (parts-of (a .time .now) (a .ways .now) (a .share .now) (q .1)) (λ C. both (passed-little _ _ _ _ _ _ _ _ _ _ (q .0) (parts-of (a .time .now) (a .ways .now) (a .share .now) (q .1)) C) (sym (light .light .ensures) ∙ not-true _ (c .if5 .taken))))
+    let T = start .pre .0 in let P = parts start in failed T P (passed-little T P) (light .light .ensures) (c .if4 .taken)
+
+-- the tests before the walk have passed
+opened : (c : tie.Else4) → let a = (let start : tie.Start = search in start .args) in Opened (a .n) (a .s) (a .mark) (a .time .now) (a .ways .now) (a .share .now)
+opened c =
+    let light : tie.After-light = search in let if3 : tie.Else3 = search in let few : tie.After-few = search in
+    let if2 : tie.Else2 = search in let reached : tie.After-reached = search in let if1 : tie.Else1 = search in
+    let at-source : tie.After-at-source = search in let known : tie.After-shared-slice-known2 = search in
+    record {
+      source = sym (at-source .at-source .ensures) ∙ not-false _ (if1 .if1 .left);
+      reached = sym (reached .reached .ensures) ∙ not-false _ (if2 .if2 .left);
+      few = sym (few .few .ensures) ∙ not-false _ (if3 .if3 .left);
+      light = sym (light .light .ensures) ∙ not-false _ (c .if4 .left);
+      bounded = λ t l. omega (arith, known .shared-slice-known2 .given t);
+    }
+
+-- the beginning, seen from there
+abbrev begun : tie.Else4 → tie.Start
+begun c = search
 
 hand-back-requires : tie.Need-hand-back-requires
 hand-back-requires c κs =
-    let if5 : tie.Else5 = search in let light : tie.After-light = search in let start : tie.Start = search in
-    let a = start .args in let q = start .pre in little-divides _ _ _ _ _ _ _ _ _ _ (q .0) (parts-of (a .time .now) (a .ways .now) (a .share .now) (q .1)) (sym (light .light .ensures) ∙ not-false _ (if5 .if5 .left)) (length-replicate {A = ℕ} 64 0)
+    let if4 : tie.Else4 = search in let start = begun if4 in
+    little-divides (start .pre .0) (parts start) (opened if4 .light) (length-replicate {A = ℕ} 64 0)
 
 flows-requires : tie.Need-flows-requires
 flows-requires c κs =
-    let hand-back : tie.After-hand-back = search in let if5 : tie.Else5 = search in
-    let light : tie.After-light = search in let if4 : tie.Else4 = search in
-    let bounded : tie.After-bounded = search in let shared-slice-known5 : tie.After-shared-slice-known5 = search in
-    let start : tie.Start = search in
-    let a = start .args in let q = start .pre in plain-balance _ _ _ _ _ _ _ _ _ _ (q .0) (parts-of (a .time .now) (a .ways .now) (a .share .now) (q .1)) (λ t l. omega (arith, shared-slice-known5 .shared-slice-known5 .given t)) (sym (bounded .bounded .ensures) ∙ not-false _ (if4 .if4 .left)) (sym (light .light .ensures) ∙ not-false _ (if5 .if5 .left)) (hand-back .hand-back .ensures)
+    let hand-back : tie.After-hand-back = search in let if4 : tie.Else4 = search in let start = begun if4 in
+    opened-balance (start .pre .0) (parts start) (opened if4) (hand-back .hand-back .ensures)
 
-returns-6 : tie.Need-returns-6
-returns-6 c =
-    let start : tie.Start = search in let flows = (let p : tie.After-flows = search in p .flows) in
-    let a = start .args in let q = start .pre in sym (refuted _ _ _ _ _ _ _ _ _ _ (q .0) (parts-of (a .time .now) (a .ways .now) (a .share .now) (q .1)) (λ C. both (c .if6 .taken) ((flows .ensures) .good (passed-relaxed _ _ _ _ _ _ _ _ _ _ (q .0) (parts-of (a .time .now) (a .ways .now) (a .share .now) (q .1)) C))))
+returns-5 : tie.Need-returns-5
+returns-5 c =
+    let flows : tie.After-flows = search in let hand-back : tie.After-hand-back = search in
+    let if4 : tie.Else4 = search in let start = begun if4 in
+    improved (start .pre .0) (parts start) (opened if4) (hand-back .hand-back .ensures) (flows .flows .ensures) (c .if5 .taken)
 
 balanced-requires : tie.Need-balanced-requires
 balanced-requires c κs =
-    let start : tie.Start = search in let if3 = (let p : tie.Else3 = search in p .if3) in
-    let bounded = (let p : tie.After-bounded = search in p .bounded) in
-    let if4 = (let p : tie.Else4 = search in p .if4) in
-    let hand-back = (let p : tie.After-hand-back = search in p .hand-back) in
-    let flows = (let p : tie.After-flows = search in p .flows) in
-    let a = start .args in let q = start .pre in balanced-pays _ _ _ _ _ _ _ _ _ _ (q .0) (parts-of (a .time .now) (a .ways .now) (a .share .now) (q .1)) (if3 .left) (sym (bounded .ensures) ∙ not-false _ (if4 .left)) (hand-back .ensures) (flows .ensures)
+    let flows : tie.After-flows = search in let hand-back : tie.After-hand-back = search in
+    let if4 : tie.Else4 = search in let start = begun if4 in
+    balanced-pays (start .pre .0) (parts start) (opened if4) (hand-back .hand-back .ensures) (flows .flows .ensures)
 
-returns-7 : tie.Need-returns-7
-returns-7 c =
-    let start : tie.Start = search in let if3 = (let p : tie.Else3 = search in p .if3) in
-    let bounded = (let p : tie.After-bounded = search in p .bounded) in
-    let if4 = (let p : tie.Else4 = search in p .if4) in
-    let hand-back = (let p : tie.After-hand-back = search in p .hand-back) in
-    let flows = (let p : tie.After-flows = search in p .flows) in
-    let balanced = (let p : tie.After-balanced = search in p .balanced) in
-    let a = start .args in let q = start .pre in sym (refuted _ _ _ _ _ _ _ _ _ _ (q .0) (parts-of (a .time .now) (a .ways .now) (a .share .now) (q .1)) (λ C. both (passed-paid _ _ _ _ _ _ _ _ _ _ (q .0) (parts-of (a .time .now) (a .ways .now) (a .share .now) (q .1)) (if3 .left) (sym (bounded .ensures) ∙ not-false _ (if4 .left)) (hand-back .ensures) (flows .ensures) C) (sym (balanced .ensures) ∙ not-true _ (c .if7 .taken))))
+add-counted : tie.Need-add-counted
+add-counted c = let start : tie.Start = search in omega (arith, start .pre .0 .few)
 
 counted-requires : tie.Need-counted-requires
 counted-requires c κs =
-    let start : tie.Start = search in let flows = (let p : tie.After-flows = search in p .flows) in
-    (start .pre .1 .1, (flows .ensures) .sums, start .pre .0 .most)
+    let flows : tie.After-flows = search in let if4 : tie.Else4 = search in let start = begun if4 in
+    (start .pre .1 .1, flows .flows .ensures .sums, start .pre .0 .most)
 
-returns-8 : tie.Need-returns-8
-returns-8 c =
-    let start : tie.Start = (let c : tie.After-light = search in search) in
-    let shared-slice-known5 = (let c : tie.After-hand-back = search in let p : tie.After-shared-slice-known5 = search in p .shared-slice-known5) in
-    let if1 = (let c : tie.After-hand-back = search in let p : tie.Else1 = search in p .if1) in
-    let if2 = (let c : tie.After-psi2 = search in let p : tie.Else2 = search in p .if2) in
-    let if3 = (let c : tie.After-sum = search in let p : tie.Else3 = search in p .if3) in
-    let bounded = (let c : tie.After-flow = search in let p : tie.After-bounded = search in p .bounded) in
-    let if4 = (let c : tie.After-flow = search in let p : tie.Else4 = search in p .if4) in
-    let light = (let p : tie.After-light = search in p .light) in
-    let if5 = (let p : tie.Else5 = search in p .if5) in
-    let hand-back = (let p : tie.After-hand-back = search in p .hand-back) in
-    let flows = (let p : tie.After-flows = search in p .flows) in
-    let if6 = (let p : tie.Else6 = search in p .if6) in
-    let balanced = (let p : tie.After-balanced = search in p .balanced) in
-    let if7 = (let p : tie.Else7 = search in p .if7) in
-    let a = start .args in let q = start .pre in c .counted .ensures ∙ decided _ _ _ _ _ _ _ _ _ _ (q .0) (parts-of (a .time .now) (a .ways .now) (a .share .now) (q .1)) (if3 .left) (sym (bounded .ensures) ∙ not-false _ (if4 .left)) (hand-back .ensures) (flows .ensures) (if1 .left) (if2 .left) (λ t l. omega (arith, shared-slice-known5 .given t)) (sym (light .ensures) ∙ not-false _ (if5 .left)) (if6 .left) (sym (balanced .ensures) ∙ not-false _ (if7 .left))
+returns-6 : tie.Need-returns-6
+returns-6 c =
+    let balanced : tie.After-balanced = search in let if5 : tie.Else5 = search in
+    let flows : tie.After-flows = search in let hand-back : tie.After-hand-back = search in
+    let if4 : tie.Else4 = search in let start = begun if4 in
+    decided (start .pre .0) (parts start) (opened if4) (hand-back .hand-back .ensures) (flows .flows .ensures) (if5 .if5 .left) (balanced .balanced .ensures) (c .counted .ensures)
 
 pub check-spec : {M : Type 1} → statement M
 check-spec =
     tie.close
     (tie.spec
-    (λ c. search needs) (λ c. search needs) returns (λ c. search needs) (λ c. search needs) returns-2
-    (λ c. search needs) (λ c. search needs) returns-3 (λ c. search needs) (λ c κs. search needs) returns-4
-    (λ c κs. search needs) returns-5 hand-back-requires flows-requires returns-6 balanced-requires returns-7
-    counted-requires returns-8)
+    (λ c κs. search needs) returns (λ c κs. search needs) returns-2 (λ c κs. search needs) returns-3
+    (λ c κs. search needs) returns-4 hand-back-requires flows-requires returns-5 balanced-requires add-counted
+    counted-requires returns-6)

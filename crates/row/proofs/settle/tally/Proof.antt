@@ -1,54 +1,59 @@
 -- `settle::tally` adds up ways, counted up to limit + 1: the invariant is `Tallying`.
 use borrow.Author.Needs.{needs}
 use native.Mathlib.Omega.{arith}
-use Rattle.row.proofs.Tallying.{Tallying, tallying-goes, tallying-ends}
+use Rattle.row.proofs.Tallying.{Tallying, tallying-adds, tallying-goes, tallying-ends}
 use Rattle.row.proofs.settle.tally.Statement.{statement}
 use Rattle.row.proofs.settle.tally.Tie as tie
 
 abbrev Inv-loop : tie.InvT-loop
-Inv-loop limit first from ways count₀ left₀ count left = Tallying limit first from ways left count
+Inv-loop limit first from ways top count₀ left₀ count left = Tallying limit first from ways left count
 
 abbrev μ-loop : tie.MeasureT-loop
-μ-loop limit first from ways count₀ left₀ count left = left
+μ-loop limit first from ways top count₀ left₀ count left = left
 
-mul-clamp : tie.Need-mul-clamp Inv-loop μ-loop
-mul-clamp c =
+mul-narrow : tie.Need-mul-narrow Inv-loop μ-loop
+mul-narrow c =
     let loop : tie.At-loop Inv-loop μ-loop = search in let start : tie.Start Inv-loop μ-loop = search in
-    omega (arith, start .pre .below (c .lowest .result) (loop .loop .inv .inside (c .lowest .result) (c .lowest .ensures .member)), start .good)
+    omega (arith, tallying-adds _ _ _ _ (start .pre) (loop .loop .inv) (c .lowest .ensures) .0, start .good)
 
-shared-slice-read-clamp : tie.Need-shared-slice-read-clamp Inv-loop μ-loop
-shared-slice-read-clamp c =
+shared-slice-read-narrow : tie.Need-shared-slice-read-narrow Inv-loop μ-loop
+shared-slice-read-narrow c =
     let lowest : tie.After-lowest Inv-loop μ-loop = search in let loop : tie.At-loop Inv-loop μ-loop = search in
     let start : tie.Start Inv-loop μ-loop = search in
-    start .pre .below _ (loop .loop .inv .inside _ (lowest .lowest .ensures .member))
+    tallying-adds _ _ _ _ (start .pre) (loop .loop .inv) (lowest .lowest .ensures) .0
 
-add-clamp : tie.Need-add-clamp Inv-loop μ-loop
-add-clamp c =
+narrow-requires-3 : tie.Need-narrow-requires-3 Inv-loop μ-loop
+narrow-requires-3 c κs =
     let lowest : tie.After-lowest Inv-loop μ-loop = search in let loop : tie.At-loop Inv-loop μ-loop = search in
     let start : tie.Start Inv-loop μ-loop = search in
-    let l = start .pre .below _ (loop .loop .inv .inside _ (lowest .lowest .ensures .member)) in omega (arith, start .pre .capped _ l, start .pre .few, loop .loop .inv .capped)
+    tallying-adds _ _ _ _ (start .pre) (loop .loop .inv) (lowest .lowest .ensures) .1
 
-clamp-requires : tie.Need-clamp-requires Inv-loop μ-loop
-clamp-requires c κs =
+add-requires : tie.Need-add-requires Inv-loop μ-loop
+add-requires c κs =
     let lowest : tie.After-lowest Inv-loop μ-loop = search in let loop : tie.At-loop Inv-loop μ-loop = search in
     let start : tie.Start Inv-loop μ-loop = search in
-    let l = start .pre .below _ (loop .loop .inv .inside _ (lowest .lowest .ensures .member)) in omega (arith, start .pre .capped _ l, start .pre .few, loop .loop .inv .capped)
+    let (_, _, within) = tallying-adds _ _ _ _ (start .pre) (loop .loop .inv) (lowest .lowest .ensures) in omega (arith, within, c .narrow3 .ensures)
 
 loop-again : tie.Need-loop-again Inv-loop μ-loop
 loop-again c =
-    let clamp : tie.After-clamp Inv-loop μ-loop = search in
+    let min-u16 : tie.After-min-u16 Inv-loop μ-loop = search in let add : tie.After-add Inv-loop μ-loop = search in
+    let narrow3 : tie.After-narrow3 Inv-loop μ-loop = search in let narrow : tie.After-narrow Inv-loop μ-loop = search in
     let lowest : tie.After-lowest Inv-loop μ-loop = search in let loop : tie.At-loop Inv-loop μ-loop = search in
     let start : tie.Start Inv-loop μ-loop = search in
-    rw (c .rest .ensures) (tallying-goes _ _ _ _ (start .pre) (loop .loop .inv) (lowest .lowest .ensures) (clamp .clamp .ensures))
+    rw (c .rest .ensures)
+    (tallying-goes _ _ _ _ (start .pre) (loop .loop .inv) (lowest .lowest .ensures)
+    (omega (arith, min-u16 .min-u16 .ensures, add .add .ensures, narrow3 .narrow3 .ensures, narrow .narrow .ensures)))
 
 returns : tie.Need-returns Inv-loop μ-loop
 returns c =
-    let loop : tie.At-loop Inv-loop μ-loop = search in let start : tie.Start Inv-loop μ-loop = search in
-    tallying-ends _ _ _ _ (start .pre) (rw (c .loop-test .left) at (loop .loop .inv))
+    let loop-test : tie.After-loop Inv-loop μ-loop = search in let loop : tie.At-loop Inv-loop μ-loop = search in
+    let start : tie.Start Inv-loop μ-loop = search in
+    omega (arith, c .wide .ensures, tallying-ends _ _ _ _ (start .pre) (rw (loop-test .loop-test .left) at (loop .loop .inv)))
 
 pub tally-spec : {M : Type 1} → statement M
 tally-spec =
     tie.close
     (tie.spec
-    Inv-loop μ-loop (λ c. search needs) (λ c κs. omega arith) mul-clamp shared-slice-read-clamp add-clamp
-    clamp-requires (λ c κs. omega arith) (λ c. omega arith) loop-again returns)
+    Inv-loop μ-loop (λ c κs. search needs) (λ c. search needs) (λ c κs. search needs) (λ c. search needs)
+    (λ c κs. omega arith) mul-narrow shared-slice-read-narrow narrow-requires-3 add-requires (λ c κs. search needs)
+    (λ c κs. omega arith) (λ c. omega arith) loop-again (λ c κs. search needs) returns)

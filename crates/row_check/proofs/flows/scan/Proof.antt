@@ -18,6 +18,11 @@ mul-base c =
     let start : tie.Start Inv-loop μ-loop = search in
     let p = start .pre in let f = flat-lt _ _ _ (p .most) (p .inside) (p .inside) in omega arith
 
+narrow-requires : tie.Need-narrow-requires Inv-loop μ-loop
+narrow-requires c κs =
+    let start : tie.Start Inv-loop μ-loop = search in
+    let p = start .pre in omega (arith, p .small (start .args .u) (p .inside))
+
 add-wide : tie.Need-add-wide Inv-loop μ-loop
 add-wide c =
     let loop : tie.At-loop Inv-loop μ-loop = search in let start : tie.Start Inv-loop μ-loop = search in
@@ -73,14 +78,27 @@ add-flow c =
     let start : tie.Start Inv-loop μ-loop = search in
     let f = walking-flow _ _ _ _ _ _ _ _ _ _ (start .pre) (loop .loop .inv) (lowest .lowest .ensures) (select-usize .select-usize .ensures) in omega arith
 
-mul-sum : tie.Need-mul-sum Inv-loop μ-loop
-mul-sum c =
+mul-add : tie.Need-mul-add Inv-loop μ-loop
+mul-add c =
     let lowest : tie.After-lowest Inv-loop μ-loop = search in let loop : tie.At-loop Inv-loop μ-loop = search in
     let start : tie.Start Inv-loop μ-loop = search in
     let i = walking-inside _ _ _ _ _ _ _ _ _ _ (start .pre) (loop .loop .inv) (lowest .lowest .ensures) in omega (arith, start .pre .most)
 
-element-copy-out-sum : tie.Need-element-copy-out-sum Inv-loop μ-loop
-element-copy-out-sum c =
+element-copy-out-add : tie.Need-element-copy-out-add Inv-loop μ-loop
+element-copy-out-add c =
+    let lowest : tie.After-lowest Inv-loop μ-loop = search in let loop : tie.At-loop Inv-loop μ-loop = search in
+    let start : tie.Start Inv-loop μ-loop = search in
+    let i = walking-inside _ _ _ _ _ _ _ _ _ _ (start .pre) (loop .loop .inv) (lowest .lowest .ensures) in omega (arith, start .pre .most)
+
+add-requires : tie.Need-add-requires Inv-loop μ-loop
+add-requires c κs =
+    let narrow : tie.After-narrow Inv-loop μ-loop = search in
+    let lowest : tie.After-lowest Inv-loop μ-loop = search in let loop : tie.At-loop Inv-loop μ-loop = search in
+    let start : tie.Start Inv-loop μ-loop = search in
+    walking-adds _ _ _ _ _ _ _ _ _ _ (start .pre) (loop .loop .inv) (lowest .lowest .ensures) (narrow .narrow .ensures) (c .select-u16 .ensures)
+
+mul-sum : tie.Need-mul-sum Inv-loop μ-loop
+mul-sum c =
     let lowest : tie.After-lowest Inv-loop μ-loop = search in let loop : tie.At-loop Inv-loop μ-loop = search in
     let start : tie.Start Inv-loop μ-loop = search in
     let i = walking-inside _ _ _ _ _ _ _ _ _ _ (start .pre) (loop .loop .inv) (lowest .lowest .ensures) in omega (arith, start .pre .most)
@@ -93,12 +111,13 @@ element-write-sum c =
 
 loop-again : tie.Need-loop-again Inv-loop μ-loop
 loop-again c =
-    let select-u32 : tie.After-select-u32 Inv-loop μ-loop = search in
+    let add : tie.After-add Inv-loop μ-loop = search in let narrow : tie.After-narrow Inv-loop μ-loop = search in
+    let select-u16 : tie.After-select-u16 Inv-loop μ-loop = search in
     let select-usize : tie.After-select-usize Inv-loop μ-loop = search in
     let wide3 : tie.After-wide3 Inv-loop μ-loop = search in let wide2 : tie.After-wide2 Inv-loop μ-loop = search in
     let lowest : tie.After-lowest Inv-loop μ-loop = search in let loop : tie.At-loop Inv-loop μ-loop = search in
     let wide : tie.After-wide Inv-loop μ-loop = search in let start : tie.Start Inv-loop μ-loop = search in
-    rw (c .rest .ensures) (walking-goes _ _ _ _ _ _ _ _ _ _ (start .pre) (lowest .lowest .ensures) (wide .wide .ensures) (wide2 .wide2 .ensures) (wide3 .wide3 .ensures) (select-usize .select-usize .ensures) (loop .loop .inv) (select-u32 .select-u32 .ensures))
+    rw (c .rest .ensures) (walking-goes _ _ _ _ _ _ _ _ _ _ (start .pre) (lowest .lowest .ensures) (wide .wide .ensures) (wide2 .wide2 .ensures) (wide3 .wide3 .ensures) (select-usize .select-usize .ensures) (loop .loop .inv) (narrow .narrow .ensures) (select-u16 .select-u16 .ensures) (add .add .ensures))
 
 returns : tie.Need-returns Inv-loop μ-loop
 returns c =
@@ -109,9 +128,8 @@ pub scan-spec : {M : Type 1} → statement M
 scan-spec =
     tie.close
     (tie.spec
-    Inv-loop μ-loop mul-base (λ c. omega arith) (λ c. omega arith) (λ c κs. tt) (λ c. omega arith)
-    (λ c. omega arith) (λ c. search (needs, walking-starts)) (λ c κs. omega arith) add-wide mul-wide-2
-    shared-slice-read-wide-2 (λ c κs. tt) add-via mul-wide-3 shared-slice-read-wide-3 (λ c κs. tt) (λ c κs. tt)
-    mul-flow element-copy-out-flow add-flow (λ c κs. tt) mul-sum element-copy-out-sum
-    (λ c. search (needs, walking-adds)) element-write-sum (λ c κs. omega arith) (λ c. omega arith) loop-again
-    returns)
+    Inv-loop μ-loop mul-base (λ c. omega arith) (λ c. omega arith) (λ c κs. tt) (λ c. search needs)
+    (λ c. search needs) narrow-requires (λ c. search (needs, walking-starts)) (λ c κs. omega arith) add-wide
+    mul-wide-2 shared-slice-read-wide-2 (λ c κs. tt) add-via mul-wide-3 shared-slice-read-wide-3 (λ c κs. tt)
+    (λ c κs. tt) mul-flow element-copy-out-flow add-flow mul-add element-copy-out-add (λ c κs. search needs)
+    add-requires mul-sum element-write-sum (λ c κs. omega arith) (λ c. omega arith) loop-again returns)

@@ -15,13 +15,14 @@ abbrev μ-loop : tie.MeasureT-loop
 
 loop-again : tie.Need-loop-again Inv-loop μ-loop
 loop-again c =
+    let wide : tie.After-wide Inv-loop μ-loop = search in
     let loop-test : tie.In-loop Inv-loop μ-loop = search in let loop : tie.At-loop Inv-loop μ-loop = search in
-    rw (c .min-u32 .ensures) (testing-goes (loop .loop .inv) (loop-test .loop-test .taken))
+    rw (c .min-u32 .ensures, wide .wide .ensures) (testing-goes (loop .loop .inv) (loop-test .loop-test .taken))
 
 pub counted-spec : {M : Type 1} → statement M
 counted-spec =
     tie.close
     (tie.spec
     Inv-loop μ-loop (λ c. testing-starts _ _) (λ c. omega arith) (λ c. omega arith) (λ c. omega arith)
-    (λ c. omega arith) (λ c κs. tt) (λ c. omega arith) (λ c. omega arith) loop-again
+    (λ c. omega arith) (λ c κs. tt) (λ c κs. tt) (λ c. omega arith) (λ c. omega arith) loop-again
     (λ c. search (needs, testing-ends)))

@@ -1,0 +1,88 @@
+// Work out, audit and edit of an older library beside those of this one, in one process and on the same halls. The older one's
+// functions have `old_` before their names. Times are the least of many runs, taken in turn, and ratios are new divided by old.
+#include "halls.h"
+
+extern "C" {
+decltype(hall_work_out) old_hall_work_out;
+decltype(hall_audit) old_hall_audit;
+decltype(hall_insert) old_hall_insert;
+decltype(hall_delete) old_hall_delete;
+}
+
+// One library's calls.
+struct Calls {
+    decltype(&hall_work_out) work_out;
+    decltype(&hall_audit) audit;
+    decltype(&hall_insert) insert;
+    decltype(&hall_delete) remove;
+};
+
+static const Calls OLD = {old_hall_work_out, old_hall_audit, old_hall_insert, old_hall_delete};
+static const Calls NEW = {hall_work_out, hall_audit, hall_insert, hall_delete};
+
+struct Times {
+    double work_out = 1e300, audit = 1e300, edits = 0;
+};
+
+static void whole(const Calls &calls, Hall &h, Times &best) {
+    hall_tables t = h.tables();
+    best.work_out = std::min(best.work_out, least_time(20, [&] { calls.work_out(h.n, HALL_TABLES(t)); }));
+    best.audit = std::min(best.audit, least_time(20, [&] { calls.audit(h.n, HALL_TABLES(t)); }));
+}
+
+// The delete of a link, and its insert again.
+static double edit(const Calls &calls, Hall &h, const Link &l) {
+    hall_tables t = h.tables();
+    return time_of([&] {
+        calls.remove(h.n, l.from, l.to, HALL_TABLES(t));
+        calls.insert(h.n, l.from, l.to, l.cost, HALL_TABLES(t));
+    });
+}
+
+// The least times of many edits of the links, a mean for one edit.
+static void edits(Hall &h, const std::vector<Link> &links, Times &old, Times &now) {
+    for (const Link &l : links) {
+        double before = 1e300, after = 1e300;
+        for (int round = 0; round < 20; round++) {
+            before = std::min(before, edit(OLD, h, l));
+            after = std::min(after, edit(NEW, h, l));
+        }
+        old.edits += before / (2 * links.size());
+        now.edits += after / (2 * links.size());
+    }
+}
+
+static void column(double old, double now) { std::printf(" | %8.1f %8.1f %6.3f", old, now, now / old); }
+
+static int measure(const std::string &name, Hall h, std::mt19937 &random) {
+    Hall other = h;
+    hall_tables t = other.tables();
+    if (h.work_out() != HALL_ACCEPTED || old_hall_work_out(other.n, HALL_TABLES(t)) != HALL_ACCEPTED) return 1;
+    Times old, now;
+    for (int round = 0; round < 50; round++) {
+        whole(OLD, h, old);
+        whole(NEW, h, now);
+    }
+    std::vector<Link> links = links_of(h);
+    std::shuffle(links.begin(), links.end(), random);
+    if (links.size() > 32) links.resize(32);
+    edits(h, links, old, now);
+    bool same = h.time == other.time && h.ways == other.ways && h.share == other.share && h.score == other.score;
+    std::printf("%-28s %5zu", name.c_str(), links_of(h).size());
+    column(old.work_out, now.work_out);
+    column(old.audit, now.audit);
+    column(old.edits, now.edits);
+    std::printf(" | %s\n", same ? "agree" : "DIFFER");
+    return same ? 0 : 1;
+}
+
+int main() {
+    std::mt19937 random(7);
+    std::printf("%-28s %5s | %24s | %24s | %24s |\n", "hall", "links", "work out: old, new, ratio", "audit", "edit");
+    int bad = 0;
+    for (size_t links : {128, 256, 1024, 4032}) bad += measure("64 stops, random", random_hall(64, links, random), random);
+    bad += measure("8 x 8 two-way grid", grid(8, random), random);
+    bad += measure("64 stops, ring and bypasses", ring(64, random), random);
+    bad += measure("16 stops, random", random_hall(16, 40, random), random);
+    return bad ? 1 : 0;
+}

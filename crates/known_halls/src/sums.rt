@@ -1,0 +1,70 @@
+// Halls of many ways at each stop: every stop has links to all later ones, of the cost of their distance, so that all routes
+// forward tie, and the ways double from stop to stop.
+use super::report;
+use super::text::end;
+use super::text::say;
+use calls::call::DELETE;
+use calls::entries::put;
+use calls::tables::Tables;
+use calls::tables::filled;
+use calls::tables::link;
+use calls::tables::place;
+use std::num::wrapping_sub_u64;
+
+// The links from u to all later stops. That to u itself is none: its cost is 0.
+fn onward(n: u64, u: u64, t: Tables) -> Tables {
+    let mut left = t;
+    for v in u..n {
+        left = link(n, u, v, wrapping_sub_u64(v, u), left);
+    }
+    left
+}
+
+// The links of all stops, in tables of entries 0.
+fn forward(n: u64) -> Tables {
+    let mut t = filled(0, 0);
+    for u in 0..n {
+        t = onward(n, u, t);
+    }
+    t
+}
+
+// Ways from stop 0 to stop 17 that come to 0 in 16 bits, if they are not cut.
+pub fn none_in_16_bits() {
+    say(b"65536 ways, 18 stops\n");
+    let t = forward(18);
+    let left = report::work_out(b"work out ", 18, t);
+    report::same(left, t);
+    end();
+}
+
+// The tables with other ways from stop 0 to the last stop.
+fn with_ways(n: u64, last: u64, count: u64, t: Tables) -> Tables {
+    let cost = t.cost;
+    let time = t.time;
+    let mut ways = t.ways;
+    let share = t.share;
+    let score = t.score;
+    put(&mut ways, place(n, 0, last), count);
+    Tables {
+        cost,
+        time,
+        ways,
+        share,
+        score,
+    }
+}
+
+// Ways from stop 0 to stop 5 that are the right ones in 16 bits.
+pub fn right_in_16_bits() {
+    say(b"16 ways, 6 stops\n");
+    let t = report::worked(6, forward(6));
+    report::pair(5, t);
+    let wrong = with_ways(6, 5, 65552, t);
+    say(b"with 65552 ways in their place");
+    report::audit(6, wrong);
+    end();
+    let left = report::edit(b"delete 0 5: ", DELETE, 6, 0, 5, 0, wrong);
+    report::same(left, wrong);
+    end();
+}
