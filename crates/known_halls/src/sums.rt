@@ -29,7 +29,7 @@ fn forward(n: u64) -> Tables {
     t
 }
 
-// Ways from stop 0 to stop 17 that come to 0 in 16 bits, if they are not cut.
+// From stop 0 to stop 17 there are 65,536 ways, which are 0 in 16 bits; that there are too many is told by nearer stops already.
 pub fn none_in_16_bits() {
     say(b"65536 ways, 18 stops\n");
     let t = forward(18);

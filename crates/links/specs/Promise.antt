@@ -23,9 +23,9 @@ viaOf n b cost time t = getD time b 0 + getD cost (b * n + t) 0
 abbrev pub dearest : ℕ
 dearest = 131070
 
--- the largest sum of ways into a stop: 63 stops before it, 22 ways each
-abbrev pub largestSum : ℕ
-largestSum = 63 * 22
+-- no sum of ways into a stop passes this: 63 stops before it, 22 ways each
+abbrev pub sumBound : ℕ
+sumBound = 63 * 22
 
 -- a source of a hall, its cost table, masks of links of that table, and a scale that every count up to the limit divides
 pub record Task (n s : ℕ) (cost out : List ℕ) (scale limit top : ℕ) : Type 0 where

@@ -8,10 +8,10 @@ use lib.ListN.{length, getD}
 use Rattle.routes.specs.Route.{has}
 use Rattle.routes.specs.Sets.{Popped}
 use Rattle.routes.proofs.Bits.{popped-kept, sum-popped, sum-none}
-use Rattle.links.specs.Promise.{largestSum}
+use Rattle.links.specs.Promise.{sumBound}
 use Rattle.row.specs.Steps.{Tally, sumOver}
 
--- the count, clamped, and what is left to add come to the whole sum, clamped
+-- the count and what is left to add, cut at limit + 1, come to the whole sum, cut there
 pub record Tallying (limit first set : ℕ) (ways : List ℕ) (left count : ℕ) : Type 0 where
   pub capped : count ≤ suc limit
   pub inside : (t : ℕ) → has left t ≡ true → has set t ≡ true
@@ -20,7 +20,7 @@ pub record Tallying (limit first set : ℕ) (ways : List ℕ) (left count : ℕ)
 module _ (limit first set : ℕ) (ways : List ℕ) (asked : Tally limit first set ways) where
   -- the next predecessor stands in the list, its ways have 16 bits, and the sum with them is within its bound
   pub tallying-adds : {left count t rest : ℕ} → Tallying limit first set ways left count → Popped left t rest
-      → (t < length ways) × (getD ways t 0 < 2 ^ 16) × (count + getD ways t 0 ≤ largestSum)
+      → (t < length ways) × (getD ways t 0 < 2 ^ 16) × (count + getD ways t 0 ≤ sumBound)
   tallying-adds {left} {count} {t} c p =
       let l = asked .below t (c .inside t (p .member)) in let w = asked .capped t l in
       (l, omega (arith, asked .few), omega (arith, asked .few, c .capped))

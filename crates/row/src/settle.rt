@@ -76,15 +76,15 @@ fn tally(limit: u32, first: u32, from: u64, ways: &[u32]) -> u32
     requires { ⌜ Tally limit first from (now ways) ⌝ }
     ensures { λ r. ⌜ r ≡ min (suc limit) (first + sumOver (now (ways .entry)) from) ⌝ }
 {
-    let top = counts::narrow(limit) + 1;
-    let mut count = counts::narrow(first);
+    let top = counts::of_entry(limit) + 1;
+    let mut count = counts::of_entry(first);
     let mut left = from;
     while left != 0 {
         let u = sets::lowest(left);
-        count = numbers::min_u16(top, counts::add(count, counts::narrow(ways[u])));
+        count = numbers::min_u16(top, counts::add(count, counts::of_entry(ways[u])));
         left = sets::rest(left);
     }
-    counts::wide(count)
+    counts::as_entry(count)
 }
 
 // Offers the links from b to the stops of a set.

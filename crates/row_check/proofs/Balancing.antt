@@ -65,7 +65,7 @@ module _ (n s : ℕ) (cost out time ways psi old new : List ℕ) where
       quiet = asked .quiet;
       small = λ t k. omega (
         arith,
-        asked .few,
+        asked .inAll,
         b .summed t k,
         sumTo-le u {g = at ways} (λ v _. under (tight W (at time) v t) {x = at ways v} (le-refl (at ways v))),
         sum-le n (at ways) u l,

@@ -27,7 +27,6 @@ pub record Checked (W : Costs) (n s limit scale : ℕ) (d σ δ : ℕ → ℕ) :
   pub one : σ s ≡ 1
   pub none : δ s ≡ 0
   pub bounded : (t : ℕ) → t < n → d t ≤ mark
-  pub few : (t : ℕ) → t < n → σ t ≤ suc limit
   pub little : (t : ℕ) → t < n → δ t < 2 ^ 40
   pub reached : (t : ℕ) → t < n → eqb (d t) mark ≡ eqb (σ t) 0
   pub relaxed : (u t : ℕ) → u < n → t < n → link W u t ≡ true → d u ≢ mark → d t ≤ d u + W u t
@@ -114,7 +113,6 @@ module _ (W : Costs) (n s c limit scale : ℕ) (inside : s < n) (within : Within
     one = R .counts .source;
     none = R .shares .source;
     bounded = R .times .bounded;
-    few = λ t l. omega arith;
     little = λ t l.
         lt-of-le-of-lt
         (le-trans (open-le W n s limit scale t) (le-trans (share-le W n s F scale t inside l) (mul-le-mul-right scale (sub-le n 2))))

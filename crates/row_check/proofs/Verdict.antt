@@ -6,7 +6,7 @@ use mathlib.Core.Bool.{Bool, true, false, cond, not, _&&_, Bool·beq, and-eq-tru
 use mathlib.Core.List.{List}
 use native.Mathlib.Nat.{mul-le-mul-right}
 use native.Mathlib.Omega.{arith}
-use lib.Dec.{eqb, leb}
+use lib.Dec.{eqb}
 use lib.ListN.{length, replicate, getD-replicate, length-replicate}
 use borrow.Author.Tests.{eqb-true, eqb-false, eq-eqb, leb-true, le-leb, lt-ltb, ltb-true, not-true}
 use Rattle.routes.specs.Route.{mark, Costs, sumTo, allTo, same, listTo, leastTime}
@@ -18,13 +18,13 @@ use Rattle.routes.proofs.Rows.{getD-listTo, listTo-of}
 use Rattle.routes.proofs.Bits.{split}
 use Rattle.routes.proofs.Totals.{ways-in-all}
 use Rattle.routes.proofs.Tight.{SameTight, same-tight, inflow-cong, outflow-cong}
-use Rattle.links.specs.Promise.{Task, dearest, largestSum, masked}
+use Rattle.links.specs.Promise.{Task, dearest, sumBound, masked}
 use Rattle.links.proofs.Masked.{masked-small, masked-within}
 use Rattle.row_check.specs.Handed.{Divides, Divided, handedBack, handedBy}
 use Rattle.row_check.proofs.Checked.{Checked, checked-right, right-checked}
 use Rattle.row_check.proofs.Handing.{handed-le}
 use Rattle.row_check.specs.Promise.{isRow}
-use Rattle.row_check.specs.Tests.{Pays, agreed, at, atSource, few, little, paid, reached}
+use Rattle.row_check.specs.Tests.{Pays, agreed, at, fewInAll, little, paid, reached}
 use Rattle.row_check.specs.Tight.{Balance, Balanced}
 
 -- parts of n entries each
@@ -35,9 +35,9 @@ pub record Parts (n : ℕ) (time ways share : List ℕ) : Type 0 where
 
 -- what the tests before the walk over the links have told
 pub record Opened (n s top : ℕ) (time ways share : List ℕ) : Type 0 where
-  pub source : atSource s time ways share ≡ true
+  pub source : at time s ≡ 0
   pub reached : allTo n (reached top time ways) ≡ true
-  pub few : few n ways ≡ true
+  pub inAll : fewInAll n ways ≡ true
   pub light : allTo n (little share) ≡ true
   pub bounded : (t : ℕ) → t < n → at time t ≤ mark
 
@@ -49,7 +49,6 @@ checked-cong W n s limit scale d σ δ d′ σ′ δ′ i e C = record {
   one = sym (e s i .1) ∙ C .one;
   none = sym (e s i .2) ∙ C .none;
   bounded = λ t l. omega (arith, e t l .0, C .bounded t l);
-  few = λ t l. omega (arith, e t l .1, C .few t l);
   little = λ t l. omega (arith, e t l .2, C .little t l);
   reached = λ t l. rw (← e t l .0, ← e t l .1) (C .reached t l);
   relaxed = λ u t k l c m. omega (arith, e u k .0, e t l .0, C .relaxed u t k l c (λ h. m (sym (e u k .0) ∙ h)));
@@ -121,19 +120,9 @@ module _ {n s : ℕ} {cost out : List ℕ} {scale limit top : ℕ} {time ways sh
   pub failed : {test answer : Bool} → (Passed → test ≡ true) → answer ≡ test → not answer ≡ true → false ≡ verdict
   failed {answer = answer} h e f = sym (is-false verdict (λ v. both (h (row-passed v)) (sym e ∙ not-true answer f)))
 
-  -- the source has its entries
-  pub passed-source : Passed → atSource s time ways share ≡ true
-  passed-source C =
-      and-eq-true-iff (eqb (at time s) 0 && eqb (at ways s) 1) _ .1 (
-        and-eq-true-iff (eqb (at time s) 0) _ .1 (eq-eqb (at time s) 0 (C .source), eq-eqb (at ways s) 1 (C .one)),
-        eq-eqb (at share s) 0 (C .none),
-      )
-
-  source-at : atSource s time ways share ≡ true → (at time s ≡ 0) × (at ways s ≡ 1) × (at share s ≡ 0)
-  source-at p =
-      let (both, δ) = and-eq-true-iff (eqb (at time s) 0 && eqb (at ways s) 1) _ .0 p in
-      let (d, σ) = and-eq-true-iff (eqb (at time s) 0) _ .0 both in
-      (eqb-true _ 0 d, eqb-true _ 1 σ, eqb-true _ 0 δ)
+  -- the source is not at time 0
+  pub no-source : at time s ≢ 0 → false ≡ verdict
+  no-source h = sym (is-false verdict (λ v. h (row-passed v .source)))
 
   -- ways stand where times do
   pub passed-reached : Passed → allTo n (reached top time ways) ≡ true
@@ -143,13 +132,13 @@ module _ {n s : ℕ} {cost out : List ℕ} {scale limit top : ℕ} {time ways sh
   reached-at p t l = of-beq _ _ (all-true n _ p t l)
 
   -- there are few ways in all, and at each stop
-  pub passed-few : Passed → few n ways ≡ true
-  passed-few C =
+  pub passed-in-all : Passed → fewInAll n ways ≡ true
+  passed-in-all C =
       let counts : Counts W n s limit (at time) (at ways) = record { source = C .one; summed = C .summed } in
-      le-leb (sumTo n (at ways)) largestSum (omega (arith, ways-in-all W n s limit (at time) (at ways) (T .source) (T .few) counts (T .most) (C .bounded)))
+      le-leb (sumTo n (at ways)) sumBound (omega (arith, ways-in-all W n s limit (at time) (at ways) (T .source) (T .few) counts (T .most) (C .bounded)))
 
-  few-at : few n ways ≡ true → (t : ℕ) → t < n → at ways t ≤ largestSum
-  few-at p t l = omega (arith, leb-true (sumTo n (at ways)) largestSum p, member-le n (at ways) t l)
+  few-at : fewInAll n ways ≡ true → (t : ℕ) → t < n → at ways t ≤ sumBound
+  few-at p t l = omega (arith, leb-true (sumTo n (at ways)) sumBound p, member-le n (at ways) t l)
 
   pub passed-little : Passed → allTo n (little share) ≡ true
   passed-little C = all-of n (little share) (λ t l. lt-ltb (at share t) (2 ^ 40) (C .little t l))
@@ -188,7 +177,7 @@ module _ {n s : ℕ} {cost out : List ℕ} {scale limit top : ℕ} {time ways sh
     room = q .room;
     sums = length-replicate {A = ℕ} 64 0;
     flows = length-replicate {A = ℕ} 64 0;
-    few = leb-true (sumTo n (at ways)) largestSum (O .few);
+    inAll = leb-true (sumTo n (at ways)) sumBound (O .inAll);
     light = λ t l. omega (arith, q .back t l, under (eqb t s) (handed-le limit scale (at ways t) (at share t)), little-at (O .light) t l, T .fine);
     quiet = q .back s (T .source) ∙ cond-true 0 _ (eq-eqb s s refl);
     empty = λ t l. getD-replicate {A = ℕ} 64 t 0 0 (omega (arith, T .most));
@@ -206,7 +195,7 @@ module _ {n s : ℕ} {cost out : List ℕ} {scale limit top : ℕ} {time ways sh
   module _ {psi sum flow : List ℕ} {bad : Bool} (O : Opened n s top time ways share) (q : Divided n s limit scale ways share psi)
       (r : Balanced n s cost out time ways psi sum flow bad) where
     pub balanced-pays : Pays n ways share flow
-    balanced-pays = record { most = T .most; counted = P .counted; shared = P .shared; room = r .room; few = few-at (O .few); light = r .light }
+    balanced-pays = record { most = T .most; counted = P .counted; shared = P .shared; room = r .room; few = few-at (O .inAll); light = r .light }
 
     flow-is : (u : ℕ) → u < n → u ≢ s → at flow u ≡ outflow W n (at time) (handedBy s limit scale (at ways) (at share)) u
     flow-is u l h = r .flows u l h ∙ same-back q u l
@@ -217,12 +206,12 @@ module _ {n s : ℕ} {cost out : List ℕ} {scale limit top : ℕ} {time ways sh
 
     passed-paid : Passed → allTo n (paid ways share flow) ≡ true
     passed-paid C = all-of n (paid ways share flow) (λ u l. eq-eqb (at share u) (at ways u * at flow u) (split (eqb u s)
-        (λ e. rw (eqb-true u s e, source-at (O .source) .2, r .none) (omega arith))
+        (λ e. rw (eqb-true u s e, C .none, r .none) (omega arith))
         (λ e. let h = eqb-false u s e in C .shared u l h ∙ ap (λ x. at ways u * x) (sym (flow-is u l h)))))
 
     passed-agreed : Passed → allTo n (agreed (limit + 1) ways sum) ≡ true
     passed-agreed C = all-of n (agreed (limit + 1) ways sum) (λ t l. eq-eqb (at ways t) (min (limit + 1) (at sum t)) (split (eqb t s)
-        (λ e. rw (eqb-true t s e) (omega (arith, source-at (O .source) .1, r .one, T .some)))
+        (λ e. rw (eqb-true t s e) (omega (arith, C .one, r .one, T .some)))
         (λ e. omega (arith, C .summed t l (eqb-false t s e), r .summed t l (eqb-false t s e)))))
 
     -- where no link improves a time, shares and ways decide
@@ -234,11 +223,10 @@ module _ {n s : ℕ} {cost out : List ℕ} {scale limit top : ℕ} {time ways sh
       where
         row : ((u : ℕ) → u < n → paid ways share flow u ≡ true) → ((t : ℕ) → t < n → agreed (limit + 1) ways sum t ≡ true) → verdict ≡ true
         row p a = passed-row (record {
-          source = source-at (O .source) .0;
-          one = source-at (O .source) .1;
-          none = source-at (O .source) .2;
+          source = O .source;
+          one = omega (arith, eqb-true (at ways s) _ (a s (T .source)), r .one, T .some);
+          none = omega (arith, eqb-true (at share s) _ (p s (T .source)) ∙ ap (λ x. at ways s * x) (r .none));
           bounded = O .bounded;
-          few = λ t l. omega (arith, eqb-true (at ways t) _ (a t l));
           little = little-at (O .light);
           reached = λ t l. sym (ap (eqb (at time t)) (T .marked)) ∙ reached-at (O .reached) t l;
           relaxed = λ u t k l. r .relaxed f u k t l;

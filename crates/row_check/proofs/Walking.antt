@@ -15,7 +15,7 @@ use Rattle.routes.specs.Sets.{Popped}
 use Rattle.routes.proofs.Bits.{popped-gone, split, has-none, sum-popped, sum-none, Rewriting, rewriting-starts, rewriting-goes, rewriting-ends}
 use Rattle.links.proofs.Flat.{flat-lt}
 use Rattle.links.specs.Picked.{Picked}
-use Rattle.links.specs.Promise.{viaOf, largestSum}
+use Rattle.links.specs.Promise.{viaOf, sumBound}
 use Rattle.row_check.specs.Tests.{at}
 use Rattle.row_check.specs.Tight.{Scan, Scans, ifTight}
 
@@ -53,7 +53,7 @@ module _ (n s u links : ℕ) (cost time ways psi old : List ℕ) (before : Bool)
 
     -- the member taken stands in every table, and its sum can take the ways of u
     pub walking-inside : {left t rest flow : ℕ} {sum : List ℕ} {bad : Bool} → Walking left sum flow bad → Popped left t rest
-        → (t < n) × (u * n + t < length cost) × (length cost ≤ 4096) × (at sum t + at ways u ≤ largestSum)
+        → (t < n) × (u * n + t < length cost) × (length cost ≤ 4096) × (at sum t + at ways u ≤ sumBound)
     walking-inside {left} {t} {rest} {flow} {sum} w p =
         let h = w .added .inside t (p .member) in
         let l = asked .below t h in
@@ -73,7 +73,7 @@ module _ (n s u links : ℕ) (cost time ways psi old : List ℕ) (before : Bool)
           go true l = (omega (arith, asked .most), omega (arith, w .flows, total, asked .most, asked .light t l))
           go false l = (omega (arith, asked .most, asked .source), omega (arith, w .flows, total, asked .most, asked .quiet))
 
-      pub walking-adds : {b : Bool} {more x : ℕ} → more ≡ at ways u → Picked b more 0 x → at sum t + x ≤ largestSum
+      pub walking-adds : {b : Bool} {more x : ℕ} → more ≡ at ways u → Picked b more 0 x → at sum t + x ≤ sumBound
       walking-adds {b} {more} m e = let (_, _, _, k) = walking-inside w p in omega (arith, e .is, under b {x = more} {m = at ways u} (omega arith))
 
     -- a turn reads the cost c and the time far, picks the stop i to take the flow from, and adds x to the sum, which makes y

@@ -8,7 +8,7 @@ use lib.Dec.{eqb}
 use lib.ListN.{length}
 use Rattle.routes.specs.Route.{mark, link, has, sumTo}
 use Rattle.routes.specs.Equations.{inflow, outflow}
-use Rattle.links.specs.Promise.{Below, masked, viaOf, largestSum}
+use Rattle.links.specs.Promise.{Below, masked, viaOf, sumBound}
 use Rattle.row_check.specs.Tests.{at}
 
 -- what going over links from u asks: from each stop the scale and a share, at most 2^41; and sums that its ways can join
@@ -24,7 +24,7 @@ pub record Scan (n s u links : ℕ) (cost time ways psi sum : List ℕ) : Type 0
   pub below : Below n links
   pub light : (t : ℕ) → t < n → at psi t ≤ 2 ^ 41
   pub quiet : at psi s ≡ 0
-  pub small : (t : ℕ) → t < n → at sum t + at ways u ≤ largestSum
+  pub small : (t : ℕ) → t < n → at sum t + at ways u ≤ sumBound
 
 -- what the link from u to t gives where it is tight
 abbrev pub ifTight : ℕ → ℕ → List ℕ → List ℕ → ℕ → ℕ → ℕ
@@ -51,7 +51,7 @@ pub record Balance (n s : ℕ) (cost out time ways psi sum flow : List ℕ) : Ty
   pub room : length psi ≡ 64
   pub sums : length sum ≡ 64
   pub flows : length flow ≡ 64
-  pub few : sumTo n (at ways) ≤ largestSum
+  pub inAll : sumTo n (at ways) ≤ sumBound
   pub light : (t : ℕ) → t < n → at psi t ≤ 2 ^ 41
   pub quiet : at psi s ≡ 0
   pub empty : (t : ℕ) → t < n → at sum t ≡ 0

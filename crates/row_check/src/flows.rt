@@ -30,7 +30,7 @@ fn scan(
 {
     let base = u * n;
     let near = numbers::wide(time[u]);
-    let more = counts::narrow(ways[u]);
+    let more = counts::of_entry(ways[u]);
     let mut flow: u64 = 0;
     let mut worse = bad;
     let mut left = links;

@@ -25,13 +25,13 @@ pub fn check(
     requires { ⌜ (length (now time) ≡ n) × (length (now ways) ≡ n) × (length (now share) ≡ n) ⌝ }
     ensures { λ r. ⌜ r ≡ isRow (masked n (now (cost .entry)) (now (out .entry))) n s limit scale (now (time .entry)) (now (ways .entry)) (now (share .entry)) ⌝ }
 {
-    if !tests::at_source(n, s, time, ways, share) {
+    if time[s] != 0 {
         return false;
     }
     if !tests::reached(n, mark, time, ways) {
         return false;
     }
-    if !tests::few(n, ways) {
+    if !tests::few_in_all(n, ways) {
         return false;
     }
     if !tests::light(n, share) {

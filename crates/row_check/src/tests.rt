@@ -2,18 +2,10 @@
 use links::counts;
 use links::numbers;
 ghost use mathlib.Core.Path.{_≡_};
-ghost use Prim.Native.Nat.{_<_, _≤_};
+ghost use Prim.Native.Nat.{_≤_};
 ghost use lib.ListN.{length};
 ghost use Rattle.routes.specs.Route.{allTo};
-ghost use Rattle.row_check.specs.Tests.{atSource, reached, few, little, paid, agreed, Pays};
-
-// The source has time 0, one way and no share.
-pub fn at_source(n: usize, s: usize, time: &[u32], ways: &[u32], share: &[u64]) -> bool
-    requires { ⌜ (s < n) × (length (now time) ≡ n) × (length (now ways) ≡ n) × (length (now share) ≡ n) ⌝ }
-    ensures { λ r. ⌜ r ≡ atSource s (now (time .entry)) (now (ways .entry)) (now (share .entry)) ⌝ }
-{
-    (time[s] == 0) & (ways[s] == 1) & (share[s] == 0)
-}
+ghost use Rattle.row_check.specs.Tests.{reached, fewInAll, little, paid, agreed, Pays};
 
 // The stops without ways are those of the mark.
 pub fn reached(n: usize, mark: u32, time: &[u32], ways: &[u32]) -> bool
@@ -27,10 +19,10 @@ pub fn reached(n: usize, mark: u32, time: &[u32], ways: &[u32]) -> bool
     ok
 }
 
-// All stops have at most 63 × 22 ways together. Those of a right row have fewer, and so no sum of ways into a stop passes that.
-pub fn few(n: usize, ways: &[u32]) -> bool
+// All stops have at most 63 × 22 ways together; a right row has fewer. A sum of ways into a stop is a part of these.
+pub fn few_in_all(n: usize, ways: &[u32]) -> bool
     requires { ⌜ (length (now ways) ≡ n) × (n ≤ 64) ⌝ }
-    ensures { λ r. ⌜ r ≡ few n (now (ways .entry)) ⌝ }
+    ensures { λ r. ⌜ r ≡ fewInAll n (now (ways .entry)) ⌝ }
 {
     let mut total: u64 = 0;
     for t in 0..n {
@@ -71,7 +63,7 @@ pub fn counted(n: usize, top: u32, ways: &[u32], sum: &[u16; 64]) -> bool
 {
     let mut ok = true;
     for t in 0..n {
-        ok &= ways[t] == numbers::min_u32(top, counts::wide(sum[t]));
+        ok &= ways[t] == numbers::min_u32(top, counts::as_entry(sum[t]));
     }
     ok
 }

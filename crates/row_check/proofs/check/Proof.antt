@@ -5,7 +5,7 @@ use native.Mathlib.Omega.{arith}
 use borrow.Author.Needs.{needs}
 use borrow.Author.Tests.{not-false}
 use lib.ListN.{length-replicate}
-use Rattle.row_check.proofs.Verdict.{Parts, parts-of, Opened, failed, passed-source, passed-reached, passed-few, passed-little, little-divides, opened-balance, improved, balanced-pays, decided}
+use Rattle.row_check.proofs.Verdict.{Parts, parts-of, Opened, failed, no-source, passed-reached, passed-in-all, passed-little, little-divides, opened-balance, improved, balanced-pays, decided}
 use Rattle.row_check.proofs.check.Statement.{statement}
 use Rattle.row_check.proofs.check.Tie as tie
 
@@ -14,9 +14,7 @@ parts : (c : tie.Start) → Parts (c .args .n) (c .args .time .now) (c .args .wa
 parts c = parts-of _ _ _ (c .pre .1)
 
 returns : tie.Need-returns
-returns c =
-    let at-source : tie.After-at-source = search in let start : tie.Start = search in
-    let T = start .pre .0 in let P = parts start in failed T P (passed-source T P) (at-source .at-source .ensures) (c .if1 .taken)
+returns c = let start : tie.Start = search in no-source (start .pre .0) (parts start) (c .if1 .taken)
 
 returns-2 : tie.Need-returns-2
 returns-2 c =
@@ -25,8 +23,8 @@ returns-2 c =
 
 returns-3 : tie.Need-returns-3
 returns-3 c =
-    let few : tie.After-few = search in let start : tie.Start = search in
-    let T = start .pre .0 in let P = parts start in failed T P (passed-few T P) (few .few .ensures) (c .if3 .taken)
+    let few-in-all : tie.After-few-in-all = search in let start : tie.Start = search in
+    let T = start .pre .0 in let P = parts start in failed T P (passed-in-all T P) (few-in-all .few-in-all .ensures) (c .if3 .taken)
 
 returns-4 : tie.Need-returns-4
 returns-4 c =
@@ -36,13 +34,13 @@ returns-4 c =
 -- the tests before the walk have passed
 opened : (c : tie.Else4) → let a = (let start : tie.Start = search in start .args) in Opened (a .n) (a .s) (a .mark) (a .time .now) (a .ways .now) (a .share .now)
 opened c =
-    let light : tie.After-light = search in let if3 : tie.Else3 = search in let few : tie.After-few = search in
+    let light : tie.After-light = search in let if3 : tie.Else3 = search in let few-in-all : tie.After-few-in-all = search in
     let if2 : tie.Else2 = search in let reached : tie.After-reached = search in let if1 : tie.Else1 = search in
-    let at-source : tie.After-at-source = search in let known : tie.After-shared-slice-known2 = search in
+    let known : tie.After-shared-slice-known2 = search in
     record {
-      source = sym (at-source .at-source .ensures) ∙ not-false _ (if1 .if1 .left);
+      source = if1 .if1 .left;
       reached = sym (reached .reached .ensures) ∙ not-false _ (if2 .if2 .left);
-      few = sym (few .few .ensures) ∙ not-false _ (if3 .if3 .left);
+      inAll = sym (few-in-all .few-in-all .ensures) ∙ not-false _ (if3 .if3 .left);
       light = sym (light .light .ensures) ∙ not-false _ (c .if4 .left);
       bounded = λ t l. omega (arith, known .shared-slice-known2 .given t);
     }
@@ -92,6 +90,6 @@ pub check-spec : {M : Type 1} → statement M
 check-spec =
     tie.close
     (tie.spec
-    (λ c κs. search needs) returns (λ c κs. search needs) returns-2 (λ c κs. search needs) returns-3
+    (λ c. search needs) (λ c. search needs) returns (λ c κs. search needs) returns-2 (λ c κs. search needs) returns-3
     (λ c κs. search needs) returns-4 hand-back-requires flows-requires returns-5 balanced-requires add-counted
     counted-requires returns-6)

@@ -18,8 +18,8 @@ mul-base c =
     let start : tie.Start Inv-loop μ-loop = search in
     let p = start .pre in let f = flat-lt _ _ _ (p .most) (p .inside) (p .inside) in omega arith
 
-narrow-requires : tie.Need-narrow-requires Inv-loop μ-loop
-narrow-requires c κs =
+of-entry-requires : tie.Need-of-entry-requires Inv-loop μ-loop
+of-entry-requires c κs =
     let start : tie.Start Inv-loop μ-loop = search in
     let p = start .pre in omega (arith, p .small (start .args .u) (p .inside))
 
@@ -92,10 +92,10 @@ element-copy-out-add c =
 
 add-requires : tie.Need-add-requires Inv-loop μ-loop
 add-requires c κs =
-    let narrow : tie.After-narrow Inv-loop μ-loop = search in
+    let of-entry : tie.After-of-entry Inv-loop μ-loop = search in
     let lowest : tie.After-lowest Inv-loop μ-loop = search in let loop : tie.At-loop Inv-loop μ-loop = search in
     let start : tie.Start Inv-loop μ-loop = search in
-    walking-adds _ _ _ _ _ _ _ _ _ _ (start .pre) (loop .loop .inv) (lowest .lowest .ensures) (narrow .narrow .ensures) (c .select-u16 .ensures)
+    walking-adds _ _ _ _ _ _ _ _ _ _ (start .pre) (loop .loop .inv) (lowest .lowest .ensures) (of-entry .of-entry .ensures) (c .select-u16 .ensures)
 
 mul-sum : tie.Need-mul-sum Inv-loop μ-loop
 mul-sum c =
@@ -111,13 +111,13 @@ element-write-sum c =
 
 loop-again : tie.Need-loop-again Inv-loop μ-loop
 loop-again c =
-    let add : tie.After-add Inv-loop μ-loop = search in let narrow : tie.After-narrow Inv-loop μ-loop = search in
+    let add : tie.After-add Inv-loop μ-loop = search in let of-entry : tie.After-of-entry Inv-loop μ-loop = search in
     let select-u16 : tie.After-select-u16 Inv-loop μ-loop = search in
     let select-usize : tie.After-select-usize Inv-loop μ-loop = search in
     let wide3 : tie.After-wide3 Inv-loop μ-loop = search in let wide2 : tie.After-wide2 Inv-loop μ-loop = search in
     let lowest : tie.After-lowest Inv-loop μ-loop = search in let loop : tie.At-loop Inv-loop μ-loop = search in
     let wide : tie.After-wide Inv-loop μ-loop = search in let start : tie.Start Inv-loop μ-loop = search in
-    rw (c .rest .ensures) (walking-goes _ _ _ _ _ _ _ _ _ _ (start .pre) (lowest .lowest .ensures) (wide .wide .ensures) (wide2 .wide2 .ensures) (wide3 .wide3 .ensures) (select-usize .select-usize .ensures) (loop .loop .inv) (narrow .narrow .ensures) (select-u16 .select-u16 .ensures) (add .add .ensures))
+    rw (c .rest .ensures) (walking-goes _ _ _ _ _ _ _ _ _ _ (start .pre) (lowest .lowest .ensures) (wide .wide .ensures) (wide2 .wide2 .ensures) (wide3 .wide3 .ensures) (select-usize .select-usize .ensures) (loop .loop .inv) (of-entry .of-entry .ensures) (select-u16 .select-u16 .ensures) (add .add .ensures))
 
 returns : tie.Need-returns Inv-loop μ-loop
 returns c =
@@ -129,7 +129,7 @@ scan-spec =
     tie.close
     (tie.spec
     Inv-loop μ-loop mul-base (λ c. omega arith) (λ c. omega arith) (λ c κs. tt) (λ c. search needs)
-    (λ c. search needs) narrow-requires (λ c. search (needs, walking-starts)) (λ c κs. omega arith) add-wide
+    (λ c. search needs) of-entry-requires (λ c. search (needs, walking-starts)) (λ c κs. omega arith) add-wide
     mul-wide-2 shared-slice-read-wide-2 (λ c κs. tt) add-via mul-wide-3 shared-slice-read-wide-3 (λ c κs. tt)
     (λ c κs. tt) mul-flow element-copy-out-flow add-flow mul-add element-copy-out-add (λ c κs. search needs)
     add-requires mul-sum element-write-sum (λ c κs. omega arith) (λ c. omega arith) loop-again returns)

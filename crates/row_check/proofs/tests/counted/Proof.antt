@@ -15,9 +15,9 @@ abbrev μ-loop : tie.MeasureT-loop
 
 loop-again : tie.Need-loop-again Inv-loop μ-loop
 loop-again c =
-    let wide : tie.After-wide Inv-loop μ-loop = search in
+    let as-entry : tie.After-as-entry Inv-loop μ-loop = search in
     let loop-test : tie.In-loop Inv-loop μ-loop = search in let loop : tie.At-loop Inv-loop μ-loop = search in
-    rw (c .min-u32 .ensures, wide .wide .ensures) (testing-goes (loop .loop .inv) (loop-test .loop-test .taken))
+    rw (c .min-u32 .ensures, as-entry .as-entry .ensures) (testing-goes (loop .loop .inv) (loop-test .loop-test .taken))
 
 pub counted-spec : {M : Type 1} → statement M
 counted-spec =

@@ -1,10 +1,10 @@
--- `tests::few` adds up the ways of all stops: the invariant is `Totalling`.
+-- `tests::few_in_all` adds up the ways of all stops: the invariant is `Totalling`.
 use Prim.Native.Nat.{_-_}
 use native.Mathlib.Omega.{arith}
-use Rattle.links.specs.Promise.{largestSum}
+use Rattle.links.specs.Promise.{sumBound}
 use Rattle.row_check.proofs.Testing.{Totalling, totalling-starts, totalling-goes, totalling-ends}
-use Rattle.row_check.proofs.tests.few.Statement.{statement}
-use Rattle.row_check.proofs.tests.few.Tie as tie
+use Rattle.row_check.proofs.tests.few_in_all.Statement.{statement}
+use Rattle.row_check.proofs.tests.few_in_all.Tie as tie
 
 abbrev Inv-loop : tie.InvT-loop
 Inv-loop n ways total₀ t₀ total t = Totalling n t ways total
@@ -29,10 +29,10 @@ loop-again c =
 returns : tie.Need-returns Inv-loop μ-loop
 returns c =
     let loop : tie.At-loop Inv-loop μ-loop = search in
-    totalling-ends largestSum (loop .loop .inv) (omega (arith, c .loop-test .left))
+    totalling-ends sumBound (loop .loop .inv) (omega (arith, c .loop-test .left))
 
-pub few-spec : {M : Type 1} → statement M
-few-spec =
+pub few-in-all-spec : {M : Type 1} → statement M
+few-in-all-spec =
     tie.close
     (tie.spec
     Inv-loop μ-loop (λ c. totalling-starts _ _) (λ c. omega arith) (λ c. omega arith) (λ c κs. tt) add-total
