@@ -1,5 +1,6 @@
 // Work out, audit and edit of an older library beside those of this one, in one process and on the same halls. The older one's
-// functions have `old_` before their names. Times are the least of many runs, taken in turn, and ratios are new divided by old.
+// functions have `old_` before their names. Times are the least of many runs, taken in turn; for each hall a line with the times
+// of both, and whether the tables agree.
 #include "halls.h"
 
 extern "C" {
@@ -30,29 +31,28 @@ static void whole(const Calls &calls, Hall &h, Times &best) {
     best.audit = std::min(best.audit, least_time(20, [&] { calls.audit(h.n, HALL_TABLES(t)); }));
 }
 
-// The delete of a link, and its insert again.
-static double edit(const Calls &calls, Hall &h, const Link &l) {
+// The delete of a link and its insert again: keeps their least time so far, and says whether both were accepted.
+static bool edit(const Calls &calls, Hall &h, const Link &l, double &least) {
     hall_tables t = h.tables();
-    return time_of([&] {
-        calls.remove(h.n, l.from, l.to, HALL_TABLES(t));
-        calls.insert(h.n, l.from, l.to, l.cost, HALL_TABLES(t));
-    });
+    hall_edited out = {}, in = {};
+    least = std::min(least, time_of([&] {
+                         out = calls.remove(h.n, l.from, l.to, HALL_TABLES(t));
+                         in = calls.insert(h.n, l.from, l.to, l.cost, HALL_TABLES(t));
+                     }));
+    return out.refusal == HALL_ACCEPTED && in.refusal == HALL_ACCEPTED;
 }
 
-// The least times of many edits of the links, a mean for one edit.
-static void edits(Hall &h, const std::vector<Link> &links, Times &old, Times &now) {
+// The mean time of an edit of these links, each with its least time of twenty; says whether all were accepted.
+static bool edits(Hall &h, const std::vector<Link> &links, Times &old, Times &now) {
+    bool taken = true;
     for (const Link &l : links) {
         double before = 1e300, after = 1e300;
-        for (int round = 0; round < 20; round++) {
-            before = std::min(before, edit(OLD, h, l));
-            after = std::min(after, edit(NEW, h, l));
-        }
+        for (int round = 0; round < 20; round++) taken = edit(OLD, h, l, before) && edit(NEW, h, l, after) && taken;
         old.edits += before / (2 * links.size());
         now.edits += after / (2 * links.size());
     }
+    return taken;
 }
-
-static void column(double old, double now) { std::printf(" | %8.1f %8.1f %6.3f", old, now, now / old); }
 
 static int measure(const std::string &name, Hall h, std::mt19937 &random) {
     Hall other = h;
@@ -66,19 +66,15 @@ static int measure(const std::string &name, Hall h, std::mt19937 &random) {
     std::vector<Link> links = links_of(h);
     std::shuffle(links.begin(), links.end(), random);
     if (links.size() > 32) links.resize(32);
-    edits(h, links, old, now);
-    bool same = h.time == other.time && h.ways == other.ways && h.share == other.share && h.score == other.score;
-    std::printf("%-28s %5zu", name.c_str(), links_of(h).size());
-    column(old.work_out, now.work_out);
-    column(old.audit, now.audit);
-    column(old.edits, now.edits);
-    std::printf(" | %s\n", same ? "agree" : "DIFFER");
+    bool same = edits(h, links, old, now) && h.cost == other.cost && h.time == other.time && h.ways == other.ways &&
+                h.share == other.share && h.score == other.score;
+    std::printf("%s, %zu links;%.2f;%.2f;%.2f;%.2f;%.2f;%.2f;%s\n", name.c_str(), links_of(h).size(), old.work_out, now.work_out,
+                old.audit, now.audit, old.edits, now.edits, same ? "agree" : "DIFFER");
     return same ? 0 : 1;
 }
 
 int main() {
     std::mt19937 random(7);
-    std::printf("%-28s %5s | %24s | %24s | %24s |\n", "hall", "links", "work out: old, new, ratio", "audit", "edit");
     int bad = 0;
     for (size_t links : {128, 256, 1024, 4032}) bad += measure("64 stops, random", random_hall(64, links, random), random);
     bad += measure("8 x 8 two-way grid", grid(8, random), random);

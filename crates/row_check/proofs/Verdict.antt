@@ -24,7 +24,7 @@ use Rattle.row_check.specs.Handed.{Divides, Divided, handedBack, handedB
 use Rattle.row_check.proofs.Checked.{Checked, checked-right, right-checked}
 use Rattle.row_check.proofs.Handing.{handed-le}
 use Rattle.row_check.specs.Promise.{isRow}
-use Rattle.row_check.specs.Tests.{Pays, agreed, at, fewInAll, little, paid, reached}
+use Rattle.row_check.specs.Tests.{Pays, agreed, at, atSource, fewInAll, little, paid, reached}
 use Rattle.row_check.specs.Tight.{Balance, Balanced}
 
 -- parts of n entries each
@@ -35,7 +35,7 @@ pub record Parts (n : ℕ) (time ways share : List ℕ) : Type 0 where
 
 -- what the tests before the walk over the links have told
 pub record Opened (n s top : ℕ) (time ways share : List ℕ) : Type 0 where
-  pub source : at time s ≡ 0
+  pub source : atSource s time ways share ≡ true
   pub reached : allTo n (reached top time ways) ≡ true
   pub inAll : fewInAll n ways ≡ true
   pub light : allTo n (little share) ≡ true
@@ -120,9 +120,19 @@ module _ {n s : ℕ} {cost out : List ℕ} {scale limit top : ℕ} {time ways sh
   pub failed : {test answer : Bool} → (Passed → test ≡ true) → answer ≡ test → not answer ≡ true → false ≡ verdict
   failed {answer = answer} h e f = sym (is-false verdict (λ v. both (h (row-passed v)) (sym e ∙ not-true answer f)))
 
-  -- the source is not at time 0
-  pub no-source : at time s ≢ 0 → false ≡ verdict
-  no-source h = sym (is-false verdict (λ v. h (row-passed v .source)))
+  -- the source has its entries
+  pub passed-source : Passed → atSource s time ways share ≡ true
+  passed-source C =
+      and-eq-true-iff (eqb (at time s) 0 && eqb (at ways s) 1) _ .1 (
+        and-eq-true-iff (eqb (at time s) 0) _ .1 (eq-eqb (at time s) 0 (C .source), eq-eqb (at ways s) 1 (C .one)),
+        eq-eqb (at share s) 0 (C .none),
+      )
+
+  source-at : atSource s time ways share ≡ true → (at time s ≡ 0) × (at ways s ≡ 1) × (at share s ≡ 0)
+  source-at p =
+      let (both, δ) = and-eq-true-iff (eqb (at time s) 0 && eqb (at ways s) 1) _ .0 p in
+      let (d, σ) = and-eq-true-iff (eqb (at time s) 0) _ .0 both in
+      (eqb-true _ 0 d, eqb-true _ 1 σ, eqb-true _ 0 δ)
 
   -- ways stand where times do
   pub passed-reached : Passed → allTo n (reached top time ways) ≡ true
@@ -223,9 +233,9 @@ module _ {n s : ℕ} {cost out : List ℕ} {scale limit top : ℕ} {time ways sh
       where
         row : ((u : ℕ) → u < n → paid ways share flow u ≡ true) → ((t : ℕ) → t < n → agreed (limit + 1) ways sum t ≡ true) → verdict ≡ true
         row p a = passed-row (record {
-          source = O .source;
-          one = omega (arith, eqb-true (at ways s) _ (a s (T .source)), r .one, T .some);
-          none = omega (arith, eqb-true (at share s) _ (p s (T .source)) ∙ ap (λ x. at ways s * x) (r .none));
+          source = source-at (O .source) .0;
+          one = source-at (O .source) .1;
+          none = source-at (O .source) .2;
           bounded = O .bounded;
           little = little-at (O .light);
           reached = λ t l. sym (ap (eqb (at time t)) (T .marked)) ∙ reached-at (O .reached) t l;

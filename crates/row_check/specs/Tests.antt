@@ -1,7 +1,7 @@
 -- What the tests over all stops ask and tell. Assumes nothing.
 use Prim.Native.Nat.{ℕ, _*_, _^_, _<_, _≤_, min}
 use mathlib.Core.Path.{_≡_}
-use mathlib.Core.Bool.{Bool, Bool·beq}
+use mathlib.Core.Bool.{Bool, _&&_, Bool·beq}
 use mathlib.Core.List.{List}
 use lib.Dec.{eqb, ltb, leb}
 use lib.ListN.{length, getD}
@@ -11,6 +11,10 @@ use Rattle.links.specs.Promise.{sumBound}
 -- the entries of a list, as a function
 abbrev pub at : List ℕ → ℕ → ℕ
 at l t = getD l t 0
+
+-- the source has time 0, one way and no share
+abbrev pub atSource : ℕ → List ℕ → List ℕ → List ℕ → Bool
+atSource s time ways share = eqb (at time s) 0 && eqb (at ways s) 1 && eqb (at share s) 0
 
 -- t has ways exactly where it has a time
 abbrev pub reached : ℕ → List ℕ → List ℕ → ℕ → Bool

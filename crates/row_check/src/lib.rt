@@ -25,7 +25,7 @@ pub fn check(
     requires { ⌜ (length (now time) ≡ n) × (length (now ways) ≡ n) × (length (now share) ≡ n) ⌝ }
     ensures { λ r. ⌜ r ≡ isRow (masked n (now (cost .entry)) (now (out .entry))) n s limit scale (now (time .entry)) (now (ways .entry)) (now (share .entry)) ⌝ }
 {
-    if time[s] != 0 {
+    if !tests::at_source(n, s, time, ways, share) {
         return false;
     }
     if !tests::reached(n, mark, time, ways) {

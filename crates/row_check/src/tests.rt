@@ -2,10 +2,18 @@
 use links::counts;
 use links::numbers;
 ghost use mathlib.Core.Path.{_≡_};
-ghost use Prim.Native.Nat.{_≤_};
+ghost use Prim.Native.Nat.{_<_, _≤_};
 ghost use lib.ListN.{length};
 ghost use Rattle.routes.specs.Route.{allTo};
-ghost use Rattle.row_check.specs.Tests.{reached, fewInAll, little, paid, agreed, Pays};
+ghost use Rattle.row_check.specs.Tests.{atSource, reached, fewInAll, little, paid, agreed, Pays};
+
+// The source has time 0, one way and no share. The tests below would find its way and share too; found here, audits are faster.
+pub fn at_source(n: usize, s: usize, time: &[u32], ways: &[u32], share: &[u64]) -> bool
+    requires { ⌜ (s < n) × (length (now time) ≡ n) × (length (now ways) ≡ n) × (length (now share) ≡ n) ⌝ }
+    ensures { λ r. ⌜ r ≡ atSource s (now (time .entry)) (now (ways .entry)) (now (share .entry)) ⌝ }
+{
+    (time[s] == 0) & (ways[s] == 1) & (share[s] == 0)
+}
 
 // The stops without ways are those of the mark.
 pub fn reached(n: usize, mark: u32, time: &[u32], ways: &[u32]) -> bool

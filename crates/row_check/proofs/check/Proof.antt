@@ -5,7 +5,7 @@ use native.Mathlib.Omega.{arith}
 use borrow.Author.Needs.{needs}
 use borrow.Author.Tests.{not-false}
 use lib.ListN.{length-replicate}
-use Rattle.row_check.proofs.Verdict.{Parts, parts-of, Opened, failed, no-source, passed-reached, passed-in-all, passed-little, little-divides, opened-balance, improved, balanced-pays, decided}
+use Rattle.row_check.proofs.Verdict.{Parts, parts-of, Opened, failed, passed-source, passed-reached, passed-in-all, passed-little, little-divides, opened-balance, improved, balanced-pays, decided}
 use Rattle.row_check.proofs.check.Statement.{statement}
 use Rattle.row_check.proofs.check.Tie as tie
 
@@ -14,7 +14,9 @@ parts : (c : tie.Start) → Parts (c .args .n) (c .args .time .now) (c .args .wa
 parts c = parts-of _ _ _ (c .pre .1)
 
 returns : tie.Need-returns
-returns c = let start : tie.Start = search in no-source (start .pre .0) (parts start) (c .if1 .taken)
+returns c =
+    let at-source : tie.After-at-source = search in let start : tie.Start = search in
+    let T = start .pre .0 in let P = parts start in failed T P (passed-source T P) (at-source .at-source .ensures) (c .if1 .taken)
 
 returns-2 : tie.Need-returns-2
 returns-2 c =
@@ -36,9 +38,9 @@ opened : (c : tie.Else4) → let a = (let start : tie.Start = search in start .a
 opened c =
     let light : tie.After-light = search in let if3 : tie.Else3 = search in let few-in-all : tie.After-few-in-all = search in
     let if2 : tie.Else2 = search in let reached : tie.After-reached = search in let if1 : tie.Else1 = search in
-    let known : tie.After-shared-slice-known2 = search in
+    let at-source : tie.After-at-source = search in let known : tie.After-shared-slice-known2 = search in
     record {
-      source = if1 .if1 .left;
+      source = sym (at-source .at-source .ensures) ∙ not-false _ (if1 .if1 .left);
       reached = sym (reached .reached .ensures) ∙ not-false _ (if2 .if2 .left);
       inAll = sym (few-in-all .few-in-all .ensures) ∙ not-false _ (if3 .if3 .left);
       light = sym (light .light .ensures) ∙ not-false _ (c .if4 .left);
@@ -90,6 +92,6 @@ pub check-spec : {M : Type 1} → statement M
 check-spec =
     tie.close
     (tie.spec
-    (λ c. search needs) (λ c. search needs) returns (λ c κs. search needs) returns-2 (λ c κs. search needs) returns-3
+    (λ c κs. search needs) returns (λ c κs. search needs) returns-2 (λ c κs. search needs) returns-3
     (λ c κs. search needs) returns-4 hand-back-requires flows-requires returns-5 balanced-requires add-counted
     counted-requires returns-6)
