@@ -2,7 +2,7 @@
 use Prim.Native.Nat.{ℕ, suc, _+_, _-_, _*_, _^_, _<_, _≤_, min}
 use mathlib.Core.Path.{_≡_, refl, sym, ap, ap₂, _∙_, subst⁻¹}
 use mathlib.Core.Logic.{_≢_}
-use mathlib.Core.Bool.{Bool, true, false, cond, not, _&&_, _||_, and-eq-true-iff}
+use mathlib.Core.Bool.{Bool, true, false, cond, not, _&&_, _||_, and-true, and-false, or-true, and-eq-true-iff}
 use mathlib.Core.List.{List}
 use native.Mathlib.Nat.{lt-irrefl, lt-of-le-of-lt, min-le-left}
 use native.Mathlib.Numerals.{add-one}
@@ -28,6 +28,11 @@ use Rattle.row.specs.Steps.{Nearest, Offered, Offers, Tally, joinedBy, s
 
 pub ground : {n s scale limit top : ℕ} {cost out : List ℕ} → Task n s cost out scale limit top → Ground n s limit cost out
 ground t = record { source = t .source; most = t .most; square = t .square; masks = t .masks; cheap = t .cheap; linked = t .linked; few = t .few }
+
+-- a stop leaves a set before others join it, of which it is none, or behind them
+but-one : (f e k d : Bool) → (e ≡ true → d ≡ true) → ((f && not e) || (k && not d)) ≡ ((f || (k && not d)) && not e)
+but-one f true k d h = rw (h refl, and-false f, and-false k, and-false)
+but-one f false k d h = rw (and-true f, and-true)
 
 -- the lists and words between two turns
 pub record Turn (n s limit : ℕ) (cost out time ways pred order : List ℕ) (done frontier k : ℕ) : Type 0 where
@@ -199,7 +204,7 @@ module _ (n s limit : ℕ) (cost out : List ℕ) (g : Ground n s limit cost out)
       -- the turn keeps what holds
       module _ (time′ pred′ : List ℕ) (count frontier′ : ℕ) (counts : count ≡ min (suc limit) (getD ways b 0 + sumOver ways (getD pred b 0)))
           (offered : Offered n b fresh cost time pred time′ pred′) (timed′ : length time′ ≡ length time) (room′ : length pred′ ≡ length pred)
-          (moves : frontier′ ≡ bitAnd (bitOr frontier fresh) ((2 ^ 64 - 1) - bit)) where
+          (moves : frontier′ ≡ bitOr (bitAnd frontier ((2 ^ 64 - 1) - bit)) fresh) where
         lowers : (t : ℕ) → t < n → getD time′ t 0 ≡ cond (link W b t && not (has done′ t)) (min (getD time b 0 + W b t) (getD time t 0)) (getD time t 0)
         lowers t l =
             offered .times t
@@ -214,13 +219,14 @@ module _ (n s limit : ℕ) (cost out : List ℕ) (g : Ground n s limit cost out)
             (λ h. rw (h, sym (fresh-at t l) ∙ h))
 
         front-at : (t : ℕ) → t < n → has frontier′ t ≡ ((has frontier t || (link W b t && not (has done′ t))) && not (eqb t b))
-        front-at t l = rw (moves, one, has-and, has-or, has-not 64 (2 ^ b) t (one-word b turn-inside) (omega (arith, g .most)), has-pow, fresh-at t l)
+        front-at t l =
+            rw (moves, one, has-or, has-and, has-not 64 (2 ^ b) t (one-word b turn-inside) (omega (arith, g .most)), has-pow, fresh-at t l)
+            (but-one (has frontier t) (eqb t b) (link W b t) (has done′ t) (λ e. settles t ∙ rw e (or-true (has done t))))
 
         below′ : (t : ℕ) → has frontier′ t ≡ true → t < n
         below′ t h =
-            let m = and-eq-true-iff (has (bitOr frontier fresh) t) _ .0 (sym (has-and (bitOr frontier fresh) _ t) ∙ rw moves at h) .0 in
             split (has frontier t) (turn .below t) λ f.
-            g .linked b t turn-inside (fresh-link t (sym (rw f at (has-or frontier fresh t)) ∙ m)) .0
+            g .linked b t turn-inside (fresh-link t (sym (has-or (bitAnd frontier _) fresh t ∙ rw (has-and, f)) ∙ rw moves at h)) .0
 
         behind′ : (t u : ℕ) → t < n → has (getD pred′ t 0) u ≡ true → u < n
         behind′ t u l h =
@@ -252,7 +258,7 @@ module _ (n s limit : ℕ) (cost out : List ℕ) (g : Ground n s limit cost out)
               room = room′ ∙ turn .room;
               queue = length-set order k b ∙ turn .queue;
               word = word′;
-              front = rw moves (lt-of-le-of-lt (and-le-l (bitOr frontier fresh) _) (or-lt 64 frontier fresh (turn .front) fresh-word));
+              front = rw moves (or-lt 64 (bitAnd frontier _) fresh (lt-of-le-of-lt (and-le-l frontier _) (turn .front)) fresh-word);
               below = below′;
               behind = behind′;
               state = settles-next W n s limit D σ E1 E2 near _ _ _ _ _ (turn .state) b turn-inside (q .member) low

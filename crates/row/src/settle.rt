@@ -40,7 +40,7 @@ pub fn settle(
         ways[b] = count;
         let fresh = out[b] & !done;
         relax(n, b, fresh, cost, time, pred);
-        frontier = (frontier | fresh) & !bit;
+        frontier = (frontier & !bit) | fresh;
     }
     k
 }
