@@ -1,5 +1,5 @@
-/* A small hall from a C host: built, edited, scored, written as an image and read back, with refusals shown; then a line of
- * 64 stops. What it prints stands in example.out. */
+/* A small hall from a C host: built, edited, scored, written as an image and read back, with refusals shown and edits taken back;
+ * then a line of 64 stops. What it prints stands in example.out. */
 #include "hall.h"
 
 #include <inttypes.h>
@@ -54,6 +54,22 @@ static void free_tables(hall_tables t)
     free(t.share);
 }
 
+/* The blocks of one hall over those of another with as many stops, and whether they are the same. */
+static size_t narrow_bytes(hall_tables t) { return 3 * t.n * t.n * sizeof *t.cost; }
+
+static size_t wide_bytes(hall_tables t) { return (t.n * t.n + t.n) * sizeof *t.share; }
+
+static void copy_tables(hall_tables to, hall_tables from)
+{
+    memcpy(to.cost, from.cost, narrow_bytes(from));
+    memcpy(to.share, from.share, wide_bytes(from));
+}
+
+static int same_tables(hall_tables a, hall_tables b)
+{
+    return memcmp(a.cost, b.cost, narrow_bytes(a)) == 0 && memcmp(a.share, b.share, wide_bytes(a)) == 0;
+}
+
 /* Each call, over the host's own type. */
 static inline uint32_t empty(const hall_tables *t) { return hall_empty(t->n, HALL_TABLES(*t)); }
 
@@ -99,7 +115,8 @@ static void print_scores(const hall_tables *t)
 
 static void print_edit(const char *what, hall_edited e)
 {
-    printf("%s: %" PRIu32 " %s, %" PRIu32 " rows touched, set %#" PRIx64 "\n", what, e.refusal, words(e.refusal), e.rows, e.touched);
+    printf("%s: %" PRIu32 " %s, %" PRIu32 " rows touched, set %#" PRIx64 ", cost before %" PRIu32 "\n", what, e.refusal, words(e.refusal),
+           e.rows, e.touched, e.cost_before);
 }
 
 static void print_call(const char *what, uint32_t refusal)
@@ -115,14 +132,36 @@ static void worn_belt(const hall_tables *hall)
     print_scores(hall);
 }
 
-/* Says whether the hall that was read back is the one that was written, and the edited tables pass the audit. */
+/* What a belt from 3 to 0 would change: it is put in, looked at, and taken out again, and the belt from 2 to 3 is run faster and
+ * then, by what that edit answered, as it ran before. Says whether all five tables are those of before. */
+static int taken_back(const hall_tables *hall)
+{
+    hall_tables before = make_tables(hall->n);
+    hall_edited faster;
+    int same;
+
+    copy_tables(before, *hall);
+    print_edit("insert 3 0 5", insert(hall, 3, 0, 5));
+    print_scores(hall);
+    print_edit("delete 3 0", delete_link(hall, 3, 0));
+    faster = cheapen(hall, 2, 3, 1);
+    print_edit("cheapen 2 3 1", faster);
+    print_edit("raise 2 3 to the cost before", raise_cost(hall, 2, 3, faster.cost_before));
+    same = same_tables(before, *hall);
+    printf("taken back: %s\n", same ? "same tables" : "OTHER TABLES");
+    free_tables(before);
+    return same;
+}
+
+/* Says whether the hall that was read back is the one that was written, edits that were taken back left nothing behind, and the
+ * edited tables pass the audit. */
 static int small_hall(void)
 {
     hall_tables hall = make_tables(4), copy = make_tables(4);
     uint8_t image[HALL_LONGEST_IMAGE];
     hall_written w;
     uint32_t refusal;
-    int same;
+    int same, back;
 
     print_call("empty hall", empty(&hall));
     print_edit("insert 0 1 5", insert(&hall, 0, 1, 5));
@@ -146,6 +185,7 @@ static int small_hall(void)
     printf("read back: %s\n", same ? "same scores" : "OTHER SCORES");
 
     worn_belt(&hall);
+    back = taken_back(&hall);
 
     /* A stray write is found by the call itself. */
     copy.ways[3] += 1;
@@ -156,7 +196,7 @@ static int small_hall(void)
     print_call("audit", refusal);
     free_tables(hall);
     free_tables(copy);
-    return same && refusal == HALL_ACCEPTED;
+    return same && back && refusal == HALL_ACCEPTED;
 }
 
 /* A one-way line of 64 stops: 31 stops lie before stop 31 and 32 behind it, so that 992 routes pass it. Says whether they do. */

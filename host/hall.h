@@ -142,12 +142,25 @@ typedef enum {
 } hall_refusal;
 
 /* An edit's answer: its refusal, the number of touched sources (those from
- * which a quickest route, before or after, uses the edited link), and their
- * set, bit s for source s. Refused: 0 rows and an empty set. */
+ * which a quickest route, before or after, uses the edited link), their set,
+ * bit s for source s, and what the link cost before the edit, 0 where there
+ * was none. Refused: 0 rows, an empty set and a cost before of 0. Behind the
+ * last field lie 4 bytes of padding with unspecified content: compare the
+ * fields, not the bytes.
+ *
+ * An accepted edit is taken back from its answer by the next call on the
+ * tables, which is then never refused, touches the same sources and leaves all
+ * five tables as they were before the edit:
+ *
+ *   hall_insert    by hall_delete
+ *   hall_cheapen   by hall_raise to cost_before
+ *   hall_raise     by hall_cheapen to cost_before
+ *   hall_delete    by hall_insert at cost_before */
 typedef struct {
     uint32_t refusal;
     uint32_t rows;
     uint64_t touched;
+    uint32_t cost_before;
 } hall_edited;
 
 /* An image write's answer: its refusal, and the length of the image, 0 if

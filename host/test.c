@@ -11,8 +11,9 @@ _Static_assert(sizeof HALL_SCALE == sizeof(uint64_t) && sizeof HALL_STOPS == siz
 _Static_assert(sizeof HALL_MARK == sizeof(uint32_t) && sizeof HALL_WAYS == sizeof(uint32_t), "as wide as an entry");
 _Static_assert(sizeof HALL_LARGEST_COST == sizeof(uint32_t), "as wide as an entry");
 
-/* Two registers each, as the archive returns them. */
-_Static_assert(sizeof(hall_edited) == 16 && offsetof(hall_edited, rows) == 4 && offsetof(hall_edited, touched) == 8, "layout");
+/* An edit's answer in memory, an image write's in two registers, as the archive returns them. */
+_Static_assert(sizeof(hall_edited) == 24 && offsetof(hall_edited, rows) == 4, "layout, with 4 bytes of padding");
+_Static_assert(offsetof(hall_edited, touched) == 8 && offsetof(hall_edited, cost_before) == 16, "layout");
 _Static_assert(sizeof(hall_written) == 16 && offsetof(hall_written, length) == 8, "layout, with 4 bytes of padding");
 
 static int wrong;
@@ -71,7 +72,7 @@ static void names_fit(void)
     HOLDS(hall_empty(3, HALL_TABLES(other)) == HALL_BAD_LENGTH);
     HOLDS(hall_empty(3, HALL_TABLES(t)) == HALL_ACCEPTED);
     e = hall_insert(3, 2, 1, 7, HALL_TABLES(t));
-    HOLDS(e.refusal == HALL_ACCEPTED && e.rows == 1 && e.touched == 4 && cost[2 * 3 + 1] == 7);
+    HOLDS(e.refusal == HALL_ACCEPTED && e.rows == 1 && e.touched == 4 && e.cost_before == 0 && cost[2 * 3 + 1] == 7);
     HOLDS(hall_insert(3, 2, 3, 7, HALL_TABLES(t)).refusal == HALL_BAD_STOP);
     HOLDS(hall_insert(3, 0, 1, HALL_LARGEST_COST + 1, HALL_TABLES(t)).refusal == HALL_BAD_COST);
     HOLDS(hall_insert(3, 2, 1, 7, HALL_TABLES(t)).refusal == HALL_LINK_PRESENT);
@@ -81,7 +82,10 @@ static void names_fit(void)
     HOLDS(hall_raise(3, 1, 2, 8, HALL_TABLES(t)).refusal == HALL_LINK_ABSENT);
     HOLDS(time[2 * 3 + 1] == 7 && time[1 * 3 + 2] == HALL_MARK);
     e = hall_raise(3, 2, 1, 8, HALL_TABLES(t));
-    HOLDS(e.refusal == HALL_ACCEPTED && e.rows == 1 && e.touched == 4 && cost[2 * 3 + 1] == 8 && time[2 * 3 + 1] == 8);
+    HOLDS(e.refusal == HALL_ACCEPTED && e.rows == 1 && e.touched == 4 && e.cost_before == 7);
+    HOLDS(cost[2 * 3 + 1] == 8 && time[2 * 3 + 1] == 8);
+    e = hall_cheapen(3, 2, 1, 8, HALL_TABLES(t));
+    HOLDS(e.refusal == HALL_COST_WRONG_SIDE && e.rows == 0 && e.touched == 0 && e.cost_before == 0);
     HOLDS(hall_image_write(3, HALL_TABLES(t), buffer, 11).refusal == HALL_SHORT_BUFFER);
     HOLDS(hall_image_write(3, HALL_TABLES(t), buffer, 12).length == 12);
     HOLDS(hall_image_check(buffer, 12, 3) == HALL_ACCEPTED);
@@ -93,11 +97,13 @@ static void names_fit(void)
     HOLDS(hall_audit(3, HALL_TABLES(t)) == HALL_ACCEPTED);
 }
 
-/* 22 stops between 0 and 1 make as many ways; one more is refused, and leaves what was there. */
+/* 22 stops between 0 and 1 make as many ways; one more is refused, and leaves what was there. Beside a quicker link there may be 23,
+ * but that link cannot close, and the refused delete does not tell what it costs. */
 static void most_ways(void)
 {
     hall_tables t = tables_of(25);
     uint64_t middle = 2 + HALL_WAYS;
+    hall_edited e;
 
     memset(cost, 0, sizeof cost);
     for (uint64_t v = 2; v < middle; v++)
@@ -106,6 +112,11 @@ static void most_ways(void)
     HOLDS(ways[1] == HALL_WAYS && score[2] == HALL_SCALE / HALL_WAYS);
     HOLDS(hall_insert(t.n, 0, middle, 5, HALL_TABLES(t)).refusal == HALL_ACCEPTED);
     HOLDS(hall_insert(t.n, middle, 1, 5, HALL_TABLES(t)).refusal == HALL_TOO_MANY_WAYS);
+    cost[middle * t.n + 1] = 5;
+    cost[1] = 9;
+    HOLDS(hall_work_out(t.n, HALL_TABLES(t)) == HALL_ACCEPTED);
+    e = hall_delete(t.n, 0, 1, HALL_TABLES(t));
+    HOLDS(e.refusal == HALL_TOO_MANY_WAYS && e.rows == 0 && e.touched == 0 && e.cost_before == 0);
     HOLDS(hall_audit(t.n, HALL_TABLES(t)) == HALL_ACCEPTED);
 }
 
@@ -134,6 +145,54 @@ static void ways_in_16_bits(void)
     HOLDS(hall_audit(t.n, HALL_TABLES(t)) == HALL_BAD_TABLES);
 }
 
+static uint32_t old_cost[MOST], old_time[MOST], old_ways[MOST];
+static uint64_t old_share[MOST], old_score[64];
+
+static void keep(void)
+{
+    memcpy(old_cost, cost, sizeof cost);
+    memcpy(old_time, time, sizeof time);
+    memcpy(old_ways, ways, sizeof ways);
+    memcpy(old_share, share, sizeof share);
+    memcpy(old_score, score, sizeof score);
+}
+
+static int as_kept(void)
+{
+    return !memcmp(old_cost, cost, sizeof cost) && !memcmp(old_time, time, sizeof time) && !memcmp(old_ways, ways, sizeof ways) &&
+           !memcmp(old_share, share, sizeof share) && !memcmp(old_score, score, sizeof score);
+}
+
+/* An edit of each kind changes the tables of 25 stops with 21 ways and is taken back from its answer. */
+static void taken_back(void)
+{
+    hall_tables t = tables_of(25);
+    hall_edited e, back;
+
+    memset(cost, 0, sizeof cost);
+    for (uint64_t v = 2; v < 1 + HALL_WAYS; v++)
+        cost[v] = cost[v * t.n + 1] = 5;
+    cost[3] = 4;
+    HOLDS(hall_work_out(t.n, HALL_TABLES(t)) == HALL_ACCEPTED && ways[1] == 1);
+    keep();
+    e = hall_insert(t.n, 0, 1, 8, HALL_TABLES(t));
+    HOLDS(e.refusal == HALL_ACCEPTED && e.cost_before == 0 && !as_kept());
+    back = hall_delete(t.n, 0, 1, HALL_TABLES(t));
+    HOLDS(back.refusal == HALL_ACCEPTED && back.touched == e.touched && back.cost_before == 8 && as_kept());
+    e = hall_raise(t.n, 0, 3, HALL_LARGEST_COST, HALL_TABLES(t));
+    HOLDS(e.refusal == HALL_ACCEPTED && e.cost_before == 4 && ways[1] == HALL_WAYS - 2 && !as_kept());
+    back = hall_cheapen(t.n, 0, 3, e.cost_before, HALL_TABLES(t));
+    HOLDS(back.refusal == HALL_ACCEPTED && back.touched == e.touched && back.cost_before == HALL_LARGEST_COST && as_kept());
+    e = hall_cheapen(t.n, 0, 4, 4, HALL_TABLES(t));
+    HOLDS(e.refusal == HALL_ACCEPTED && e.cost_before == 5 && ways[1] == 2 && !as_kept());
+    back = hall_raise(t.n, 0, 4, e.cost_before, HALL_TABLES(t));
+    HOLDS(back.refusal == HALL_ACCEPTED && back.touched == e.touched && back.cost_before == 4 && as_kept());
+    e = hall_delete(t.n, 3, 1, HALL_TABLES(t));
+    HOLDS(e.refusal == HALL_ACCEPTED && e.cost_before == 5 && !as_kept());
+    back = hall_insert(t.n, 3, 1, e.cost_before, HALL_TABLES(t));
+    HOLDS(back.refusal == HALL_ACCEPTED && back.touched == e.touched && back.cost_before == 0 && as_kept());
+}
+
 /* All links of the largest hall make the longest image. */
 static void longest_image(void)
 {
@@ -156,6 +215,7 @@ int main(void)
     names_fit();
     most_ways();
     ways_in_16_bits();
+    taken_back();
     longest_image();
     return wrong != 0;
 }

@@ -46,9 +46,9 @@ book-refusal c b = reply-refusal (bookRefusal c b) (rule (c .n) (c .ask) (b .lin
 pub done-refusal : (c : Call) (t : Tables) {t′ : Tables} {a : Answer} → Done c t t′ a → a .refusal ≡ refusal c t
 done-refusal c t d = ap (λ a. a .refusal) (d .answered) ∙ answer-refusal c t
 
--- only an edit names sources, and only an image write writes bytes
+-- only an edit names sources and tells a cost before, and only an image write writes bytes
 abbrev pub NoSet : Answer → Type 0
-NoSet a = (a .touched ≡ 0) × (a .rows ≡ 0)
+NoSet a = (a .touched ≡ 0) × (a .rows ≡ 0) × (a .before ≡ 0)
 
 abbrev pub NoBytes : Answer → Type 0
 NoBytes a = (a .length ≡ 0) × (a .buffer ≡ [])
@@ -61,31 +61,31 @@ Parts (edit e) a = NoBytes a
 Parts (imageWrite buffer) a = NoSet a
 Parts (imageRead image) a = NoSet a × NoBytes a
 
--- what holds of what a call says and of a refusal alone holds of its answer
-pub reply-either : (P : Answer → Type 0) (r : Refusal) (x : Rule) → P (x .says) → P (plain r (x .lentBuffer)) → P (reply r x)
-reply-either P r x said refused = go (accepted r)
+-- what holds of what an accepted call says and of a refusal alone holds of its answer
+pub reply-either : (P : Answer → Type 0) (r : Refusal) (x : Rule) → (accepted r ≡ true → P (x .says)) → P (plain r (x .lentBuffer)) → P (reply r x)
+reply-either P r x said refused = go (accepted r) refl
   where
-    go : (b : Bool) → P (cond b (x .says) (plain r (x .lentBuffer)))
-    go true = said
-    go false = refused
+    go : (b : Bool) → accepted r ≡ b → P (cond b (x .says) (plain r (x .lentBuffer)))
+    go true ok = said ok
+    go false ok = refused
 
 -- the answer of every call, on any tables
 pub answer-parts : (c : Call) (t : Tables) → Parts (c .ask) (answer c t)
 unfolding answer Parts rule
-answer-parts c t = reply-either (Parts (c .ask)) (refusal c t) (rule (c .n) (c .ask) (t .cost)) (said (c .ask)) (alone (c .ask))
+answer-parts c t = reply-either (Parts (c .ask)) (refusal c t) (rule (c .n) (c .ask) (t .cost)) (λ ok. said (c .ask)) (alone (c .ask))
   where
     said : (ask : Ask) → Parts ask (rule (c .n) ask (t .cost) .says)
-    said emptyHall = ((refl, refl), (refl, refl))
-    said audit = ((refl, refl), (refl, refl))
-    said (workOut cost) = ((refl, refl), (refl, refl))
+    said emptyHall = ((refl, refl, refl), (refl, refl))
+    said audit = ((refl, refl, refl), (refl, refl))
+    said (workOut cost) = ((refl, refl, refl), (refl, refl))
     said (edit e) = (refl, refl)
-    said (imageWrite buffer) = (refl, refl)
-    said (imageRead image) = ((refl, refl), (refl, refl))
+    said (imageWrite buffer) = (refl, refl, refl)
+    said (imageRead image) = ((refl, refl, refl), (refl, refl))
 
     alone : (ask : Ask) → Parts ask (plain (refusal c t) (rule (c .n) ask (t .cost) .lentBuffer))
-    alone emptyHall = ((refl, refl), (refl, refl))
-    alone audit = ((refl, refl), (refl, refl))
-    alone (workOut cost) = ((refl, refl), (refl, refl))
+    alone emptyHall = ((refl, refl, refl), (refl, refl))
+    alone audit = ((refl, refl, refl), (refl, refl))
+    alone (workOut cost) = ((refl, refl, refl), (refl, refl))
     alone (edit e) = (refl, refl)
-    alone (imageWrite buffer) = (refl, refl)
-    alone (imageRead image) = ((refl, refl), (refl, refl))
+    alone (imageWrite buffer) = (refl, refl, refl)
+    alone (imageRead image) = ((refl, refl, refl), (refl, refl))

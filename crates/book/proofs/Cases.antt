@@ -8,11 +8,12 @@ use lib.ListN.{replicate, drop}
 use lib.Dec.{eqb}
 use Rattle.routes.specs.Route.{mark, sumTo, joinTo, listTo, allTo, same, setOf, count, visits, uses, time, least, extend, hops, routes, leastTime, quickest, ways, through, portion, share, used, score}
 use Rattle.book.specs.Hall.{Tables, mostStops, largestCost, mostWays, scale, filled, sized, validCosts, uncrowded, right, touched, lowFirst, field, imageOf, validRecord, isImage, costsOf}
-use Rattle.book.specs.Call.{Call, Ask, emptyHall, audit, workOut, edit, number, rule, Answer, refusal, after, answer}
+use Rattle.book.specs.Call.{Call, Ask, emptyHall, audit, workOut, edit, number, rule, Answer, refusal, after, answer, reversal}
 use Rattle.book.specs.Book.{run, Step, kept, noLinks, bookRefusal, bookAfter, bookAnswer, bookAnswers}
 use Rattle.book.proofs.Sequence.{stepsOf}
 use Rattle.book.specs.declared.Kind.{Kind}
 use Rattle.book.specs.declared.Kind.the-variants.{Insert, Cheapen, Raise, Delete}
+use Rattle.book.specs.declared.Refusal.the-variants.{Accepted}
 
 -- document 01's numbers: the largest time, the bound of scores, the mark in 32 bits; 1 to 22 divide the scale, 23 does not
 pub numbers :
@@ -29,16 +30,19 @@ pub image-worked :
 unfolding sumTo joinTo listTo allTo lowFirst field imageOf validRecord isImage costsOf
 image-worked = (refl, refl, refl, refl)
 
--- an empty hall with n on tables full of sevens, then these calls: the refusal and the touched rows of each, and the scores left
+-- an empty hall with n on tables full of sevens, then these calls: the refusal, the touched rows and the cost before of each, and the
+-- scores left
 pub record Case : Type 0 where
   pub n : ℕ
   pub asks : List Ask
   pub refusals : List ℕ
   pub rows : List ℕ
+  pub costsBefore : List ℕ
   pub scores : List ℕ
 
-abbrev pub case : ℕ → List Ask → List ℕ → List ℕ → List ℕ → Case
-case n asks refusals rows scores = record { n = n; asks = asks; refusals = refusals; rows = rows; scores = scores }
+abbrev pub case : ℕ → List Ask → List ℕ → List ℕ → List ℕ → List ℕ → Case
+case n asks refusals rows costsBefore scores =
+    record { n = n; asks = asks; refusals = refusals; rows = rows; costsBefore = costsBefore; scores = scores }
 
 abbrev pub sevens : ℕ → Tables
 sevens n =
@@ -53,7 +57,8 @@ holds c =
     let steps : List Step = stepsOf (calls c) (sevens (c .n)) in
     let said : List Answer = map (λ s. s .answer) steps in
     let scores : List ℕ = run kept steps (sevens (c .n)) .score in
-    same (map (λ a. number (a .refusal)) said) (c .refusals) && (same (map (λ a. a .rows) said) (c .rows) && same scores (c .scores))
+    let are : (Answer → ℕ) → List ℕ → Bool = λ part l. same (map part said) l in
+    are (λ a. number (a .refusal)) (c .refusals) && (are (λ a. a .rows) (c .rows) && (are (λ a. a .before) (c .costsBefore) && same scores (c .scores)))
 
 -- an edit of the link u to v
 abbrev pub change : Kind → (u v cost : ℕ) → Ask
@@ -63,10 +68,13 @@ change kind u v cost = edit (record { kind = kind; u = u; v = v; cost = cost })
 abbrev pub diamond : List Ask
 diamond = change Insert 0 1 5 ∷ change Insert 0 2 5 ∷ change Insert 1 3 5 ∷ change Insert 2 3 5 ∷ change Cheapen 2 3 5 ∷ []
 
--- cost tables to raise a link in: a link of 5 from 0 to 1 beside 3 and 3 over 2; the hall of P2; and from 0 to 3 a link of 10 beside
--- 5 and 5 over 2, from where to 3 there are 3 and 3 over 1 too
+-- cost tables to begin with: a link of 5 from 0 to 1 beside 3 and 3 over 2; the halls of P1 and of P2; and from 0 to 3 a link of 10
+-- beside 5 and 5 over 2, from where to 3 there are 3 and 3 over 1 too
 abbrev pub bypass : List ℕ
 bypass = 0 ∷ 5 ∷ 3 ∷ 0 ∷ 0 ∷ 0 ∷ 0 ∷ 3 ∷ 0 ∷ []
+
+abbrev pub even : List ℕ
+even = 0 ∷ 5 ∷ 5 ∷ 0 ∷ 0 ∷ 0 ∷ 0 ∷ 5 ∷ 0 ∷ 0 ∷ 0 ∷ 5 ∷ 0 ∷ 0 ∷ 0 ∷ 0 ∷ []
 
 abbrev pub uneven : List ℕ
 uneven = 0 ∷ 5 ∷ 5 ∷ 0 ∷ 0 ∷ 0 ∷ 0 ∷ 5 ∷ 0 ∷ 0 ∷ 0 ∷ 4 ∷ 0 ∷ 0 ∷ 0 ∷ 0 ∷ []
@@ -77,35 +85,35 @@ ties = 0 ∷ 0 ∷ 5 ∷ 10 ∷ 0 ∷ 0 ∷ 0 ∷ 3 ∷ 0 ∷ 3 ∷ 0 ∷ 5 ∷ 
 abbrev pub cases : List Case
 cases =
     -- P1: the example
-    case 4 diamond (0 ∷ 0 ∷ 0 ∷ 0 ∷ 0 ∷ 8 ∷ []) (0 ∷ 1 ∷ 1 ∷ 2 ∷ 2 ∷ 0 ∷ []) (0 ∷ scale / 2 ∷ scale / 2 ∷ 0 ∷ []) ∷
+    case 4 diamond (0 ∷ 0 ∷ 0 ∷ 0 ∷ 0 ∷ 8 ∷ []) (0 ∷ 1 ∷ 1 ∷ 2 ∷ 2 ∷ 0 ∷ []) (0 ∷ 0 ∷ 0 ∷ 0 ∷ 0 ∷ 0 ∷ []) (0 ∷ scale / 2 ∷ scale / 2 ∷ 0 ∷ []) ∷
     -- P2: then the lower way is quicker
-    case 4 (diamond ++ change Cheapen 2 3 4 ∷ []) (0 ∷ 0 ∷ 0 ∷ 0 ∷ 0 ∷ 8 ∷ 0 ∷ []) (0 ∷ 1 ∷ 1 ∷ 2 ∷ 2 ∷ 0 ∷ 2 ∷ []) (0 ∷ 0 ∷ scale ∷ 0 ∷ []) ∷
+    case 4 (diamond ++ change Cheapen 2 3 4 ∷ []) (0 ∷ 0 ∷ 0 ∷ 0 ∷ 0 ∷ 8 ∷ 0 ∷ []) (0 ∷ 1 ∷ 1 ∷ 2 ∷ 2 ∷ 0 ∷ 2 ∷ []) (0 ∷ 0 ∷ 0 ∷ 0 ∷ 0 ∷ 0 ∷ 5 ∷ []) (0 ∷ 0 ∷ scale ∷ 0 ∷ []) ∷
     -- P3: then it closes
-    case 4 (diamond ++ change Cheapen 2 3 4 ∷ change Delete 2 3 0 ∷ []) (0 ∷ 0 ∷ 0 ∷ 0 ∷ 0 ∷ 8 ∷ 0 ∷ 0 ∷ []) (0 ∷ 1 ∷ 1 ∷ 2 ∷ 2 ∷ 0 ∷ 2 ∷ 2 ∷ []) (0 ∷ scale ∷ 0 ∷ 0 ∷ []) ∷
+    case 4 (diamond ++ change Cheapen 2 3 4 ∷ change Delete 2 3 0 ∷ []) (0 ∷ 0 ∷ 0 ∷ 0 ∷ 0 ∷ 8 ∷ 0 ∷ 0 ∷ []) (0 ∷ 1 ∷ 1 ∷ 2 ∷ 2 ∷ 0 ∷ 2 ∷ 2 ∷ []) (0 ∷ 0 ∷ 0 ∷ 0 ∷ 0 ∷ 0 ∷ 5 ∷ 4 ∷ []) (0 ∷ scale ∷ 0 ∷ 0 ∷ []) ∷
     -- P4: one stop has no link (one-stop, in Calls, says it of every edit)
     case 1 (change Insert 0 0 5 ∷ change Insert 0 1 5 ∷ change Cheapen 0 0 0 ∷ change Raise 0 0 5 ∷ change Delete 7 9 0 ∷ []) (0 ∷ 4 ∷ 4 ∷ 4 ∷ 4 ∷ 4 ∷ [])
-    (0 ∷ 0 ∷ 0 ∷ 0 ∷ 0 ∷ 0 ∷ []) (0 ∷ []) ∷
+    (replicate 6 0) (replicate 6 0) (0 ∷ []) ∷
     -- P5: no stop is no hall
-    case 0 (change Insert 0 1 5 ∷ []) (1 ∷ 1 ∷ []) (0 ∷ 0 ∷ []) [] ∷
+    case 0 (change Insert 0 1 5 ∷ []) (1 ∷ 1 ∷ []) (0 ∷ 0 ∷ []) (0 ∷ 0 ∷ []) [] ∷
     -- P6, P7: the largest cost, and one more
-    case 2 (change Insert 0 1 65535 ∷ []) (0 ∷ 0 ∷ []) (0 ∷ 1 ∷ []) (0 ∷ 0 ∷ []) ∷
-    case 2 (change Insert 0 1 65536 ∷ []) (0 ∷ 5 ∷ []) (0 ∷ 0 ∷ []) (0 ∷ 0 ∷ []) ∷
+    case 2 (change Insert 0 1 65535 ∷ []) (0 ∷ 0 ∷ []) (0 ∷ 1 ∷ []) (0 ∷ 0 ∷ []) (0 ∷ 0 ∷ []) ∷
+    case 2 (change Insert 0 1 65536 ∷ []) (0 ∷ 5 ∷ []) (0 ∷ 0 ∷ []) (0 ∷ 0 ∷ []) (0 ∷ 0 ∷ []) ∷
     -- P8: a cost of 0 is told before an absent link
-    case 2 (change Cheapen 0 1 0 ∷ []) (0 ∷ 5 ∷ []) (0 ∷ 0 ∷ []) (0 ∷ 0 ∷ []) ∷
+    case 2 (change Cheapen 0 1 0 ∷ []) (0 ∷ 5 ∷ []) (0 ∷ 0 ∷ []) (0 ∷ 0 ∷ []) (0 ∷ 0 ∷ []) ∷
     -- a raise that loses every route of its link, and then one of a link that no quickest route uses, which touches nothing
-    case 3 (workOut bypass ∷ change Raise 0 1 7 ∷ change Raise 0 1 9 ∷ []) (0 ∷ 0 ∷ 0 ∷ 0 ∷ []) (0 ∷ 0 ∷ 1 ∷ 0 ∷ []) (0 ∷ 0 ∷ scale ∷ []) ∷
+    case 3 (workOut bypass ∷ change Raise 0 1 7 ∷ change Raise 0 1 9 ∷ []) (0 ∷ 0 ∷ 0 ∷ 0 ∷ []) (0 ∷ 0 ∷ 1 ∷ 0 ∷ []) (0 ∷ 0 ∷ 5 ∷ 7 ∷ []) (0 ∷ 0 ∷ scale ∷ []) ∷
     -- raises that keep some: P2's link back to the tie of P1; and one that loses a tie, from 0 to 3, and comes into another, from 2 to 3
-    case 4 (workOut uneven ∷ change Raise 2 3 5 ∷ []) (0 ∷ 0 ∷ 0 ∷ []) (0 ∷ 0 ∷ 2 ∷ []) (0 ∷ scale / 2 ∷ scale / 2 ∷ 0 ∷ []) ∷
-    case 4 (workOut ties ∷ change Raise 2 3 6 ∷ []) (0 ∷ 0 ∷ 0 ∷ []) (0 ∷ 0 ∷ 2 ∷ []) (0 ∷ scale / 2 ∷ scale ∷ 0 ∷ []) ∷
+    case 4 (workOut uneven ∷ change Raise 2 3 5 ∷ []) (0 ∷ 0 ∷ 0 ∷ []) (0 ∷ 0 ∷ 2 ∷ []) (0 ∷ 0 ∷ 4 ∷ []) (0 ∷ scale / 2 ∷ scale / 2 ∷ 0 ∷ []) ∷
+    case 4 (workOut ties ∷ change Raise 2 3 6 ∷ []) (0 ∷ 0 ∷ 0 ∷ []) (0 ∷ 0 ∷ 2 ∷ []) (0 ∷ 0 ∷ 5 ∷ []) (0 ∷ scale / 2 ∷ scale ∷ 0 ∷ []) ∷
     -- refusals of a raise: 4 before 5, 5 before 7; 5 before 8, 8 at the present cost and below it; the largest cost, and one more
-    case 2 (change Raise 1 1 0 ∷ change Raise 0 1 0 ∷ change Raise 0 1 65536 ∷ change Raise 0 1 5 ∷ []) (0 ∷ 4 ∷ 5 ∷ 5 ∷ 7 ∷ []) (0 ∷ 0 ∷ 0 ∷ 0 ∷ 0 ∷ [])
+    case 2 (change Raise 1 1 0 ∷ change Raise 0 1 0 ∷ change Raise 0 1 65536 ∷ change Raise 0 1 5 ∷ []) (0 ∷ 4 ∷ 5 ∷ 5 ∷ 7 ∷ []) (replicate 5 0) (replicate 5 0)
     (0 ∷ 0 ∷ []) ∷
     case 2 (change Insert 0 1 9 ∷ change Raise 0 1 0 ∷ change Raise 0 1 9 ∷ change Raise 0 1 8 ∷ change Raise 0 1 65536 ∷ change Raise 0 1 65535 ∷ [])
-    (0 ∷ 0 ∷ 5 ∷ 8 ∷ 8 ∷ 5 ∷ 0 ∷ []) (0 ∷ 1 ∷ 0 ∷ 0 ∷ 0 ∷ 0 ∷ 1 ∷ []) (0 ∷ 0 ∷ []) ∷ []
+    (0 ∷ 0 ∷ 5 ∷ 8 ∷ 8 ∷ 5 ∷ 0 ∷ []) (0 ∷ 1 ∷ 0 ∷ 0 ∷ 0 ∷ 0 ∷ 1 ∷ []) (0 ∷ 0 ∷ 0 ∷ 0 ∷ 0 ∷ 0 ∷ 9 ∷ []) (0 ∷ 0 ∷ []) ∷ []
 
 -- the cost tables that an insert, a cheapen, a raise and a delete leave
 pub costs-left :
-    let left : List Ask → List ℕ = λ asks. run kept (stepsOf (calls (case 2 asks [] [] [])) (sevens 2)) (sevens 2) .cost in
+    let left : List Ask → List ℕ = λ asks. run kept (stepsOf (calls (case 2 asks [] [] [] [])) (sevens 2)) (sevens 2) .cost in
     (left (change Insert 0 1 65535 ∷ []) ≡ 0 ∷ 65535 ∷ 0 ∷ 0 ∷ []) ×
     (left (change Insert 0 1 9 ∷ change Insert 1 0 9 ∷ change Cheapen 0 1 4 ∷ []) ≡ 0 ∷ 4 ∷ 9 ∷ 0 ∷ []) ×
     (left (change Insert 0 1 9 ∷ change Insert 1 0 9 ∷ change Raise 1 0 12 ∷ []) ≡ 0 ∷ 9 ∷ 12 ∷ 0 ∷ []) ×
@@ -116,6 +124,17 @@ costs-left = (refl, refl, refl, refl)
 pub cases-hold : map holds cases ≡ replicate 13 true
 unfolding holds sumTo joinTo listTo allTo same setOf count visits uses time least extend hops routes leastTime quickest ways through portion share used score filled sized validCosts uncrowded right touched rule refusal after answer run stepsOf
 cases-hold = refl
+
+-- P2's edit, reversed by what its kind, its stops and its answer give, leaves the five tables of P1, and answers the cost that it had set
+pub reversed-so :
+    let t : Tables = filled scale 4 even in
+    let c : Call = record { n = 4; ask = change Cheapen 2 3 4 } in
+    let back : Call = record { n = 4; ask = edit (reversal Cheapen 2 3 (answer c t)) } in
+    let a : Answer = answer back (after c t) in
+    (run kept (stepsOf (calls (case 4 diamond [] [] [] [])) (sevens 4)) (sevens 4) ≡ t) × (back .ask ≡ change Raise 2 3 5) ×
+    (after back (after c t) ≡ t) × (a .refusal ≡ Accepted) × (a .touched ≡ 5) × (a .before ≡ 4)
+unfolding sumTo joinTo listTo allTo same setOf count visits uses time least extend hops routes leastTime quickest ways through portion share used score filled sized validCosts uncrowded right touched rule refusal after answer run stepsOf
+reversed-so = (refl, refl, refl, refl, refl, refl)
 
 -- the sets of touched sources of raises in the book, a refused one among them and one of a link that no quickest route uses, and the
 -- links that they leave
@@ -136,8 +155,9 @@ pub book-runs :
     let none : List ℕ = replicate 16 0 in
     (map (λ a. number (a .refusal)) (bookAnswers (calls ++ more) (noLinks 4)) ≡ 0 ∷ 0 ∷ 0 ∷ 0 ∷ 8 ∷ 0 ∷ 0 ∷ 2 ∷ 6 ∷ 2 ∷ []) ×
     (map (λ a. a .touched) (bookAnswers (calls ++ more) (noLinks 4)) ≡ 1 ∷ 1 ∷ 3 ∷ 5 ∷ 0 ∷ 5 ∷ 5 ∷ 0 ∷ 0 ∷ 0 ∷ []) ×
+    (map (λ a. a .before) (bookAnswers (calls ++ more) (noLinks 4)) ≡ 0 ∷ 0 ∷ 0 ∷ 0 ∷ 0 ∷ 5 ∷ 4 ∷ 0 ∷ 0 ∷ 0 ∷ []) ×
     (run bookAfter (calls ++ more) (noLinks 4) .links ≡ 0 ∷ 5 ∷ 5 ∷ 0 ∷ 0 ∷ 0 ∷ 0 ∷ 5 ∷ 0 ∷ 0 ∷ 0 ∷ 0 ∷ 0 ∷ 0 ∷ 0 ∷ 0 ∷ []) ×
     (run bookAfter (calls ++ (record { n = 4; ask = emptyHall } ∷ [])) (noLinks 4) .links ≡ none) ×
     (run bookAfter (calls ++ (record { n = 4; ask = workOut (0 ∷ 7 ∷ drop 2 none) } ∷ [])) (noLinks 4) .links ≡ 0 ∷ 7 ∷ drop 2 none)
 unfolding sumTo joinTo listTo allTo same setOf count visits uses time least extend hops routes leastTime quickest ways through portion share used score filled sized validCosts uncrowded right touched rule bookRefusal bookAfter bookAnswer bookAnswers run
-book-runs = (refl, refl, refl, refl, refl)
+book-runs = (refl, refl, refl, refl, refl, refl)

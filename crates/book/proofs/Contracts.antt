@@ -25,15 +25,15 @@ module _ (cost time ways share score : Param) where
   beside-so = (refl, refl, refl, refl, refl)
 
 -- the answer has these parts, in the order of the record
-abbrev Says : Answer → Refusal → (touched rows length : ℕ) → (buffer : List ℕ) → Type 0
-Says a refusal touched rows length buffer =
-    (a .refusal ≡ refusal) × (a .touched ≡ touched) × (a .rows ≡ rows) × (a .length ≡ length) × (a .buffer ≡ buffer)
+abbrev Says : Answer → Refusal → (touched rows before length : ℕ) → (buffer : List ℕ) → Type 0
+Says a refusal touched rows before length buffer =
+    (a .refusal ≡ refusal) × (a .touched ≡ touched) × (a .rows ≡ rows) × (a .before ≡ before) × (a .length ≡ length) × (a .buffer ≡ buffer)
 
-pub refusal-so : (r : Refusal) → Says (ofRefusal r) r 0 0 0 []
-refusal-so r = (refl, refl, refl, refl, refl)
+pub refusal-so : (r : Refusal) → Says (ofRefusal r) r 0 0 0 0 []
+refusal-so r = (refl, refl, refl, refl, refl, refl)
 
-pub edit-so : (a : EditAnswer) → Says (ofEdit a) (a .refusal) (a .touched) (a .rows) 0 []
-edit-so a = (refl, refl, refl, refl, refl)
+pub edit-so : (a : EditAnswer) → Says (ofEdit a) (a .refusal) (a .touched) (a .rows) (a .before) 0 []
+edit-so a = (refl, refl, refl, refl, refl, refl)
 
-pub write-so : (a : WriteAnswer) (buffer : List ℕ) → Says (ofWrite a buffer) (a .refusal) 0 0 (a .length) buffer
-write-so a buffer = (refl, refl, refl, refl, refl)
+pub write-so : (a : WriteAnswer) (buffer : List ℕ) → Says (ofWrite a buffer) (a .refusal) 0 0 0 (a .length) buffer
+write-so a buffer = (refl, refl, refl, refl, refl, refl)

@@ -72,7 +72,7 @@ unfoldable pub answersSo : Corner → Bool
 answersSo k =
     let c : Call = record { n = k .n; ask = k .ask } in
     let a : Answer = answer c (k .tables) in
-    let empty : Bool = eqb (a .touched) 0 && (eqb (a .rows) 0 && eqb (a .length) 0) in
+    let empty : Bool = eqb (a .touched) 0 && (eqb (a .rows) 0 && (eqb (a .before) 0 && eqb (a .length) 0)) in
     let stays : Bool = same (flat (after c (k .tables))) (flat (k .tables)) && same (a .buffer) (bufferOf c (k .tables)) in
     eqb (number (a .refusal)) (k .number) && (eqb (k .number) 0 || (empty && stays))
 

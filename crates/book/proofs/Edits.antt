@@ -21,6 +21,7 @@ use Rattle.book.specs.declared.Refusal.the-variants.{Accepted}
 use Rattle.book.proofs.Tables.{entry-table, only-set, valid-costs}
 use Rattle.book.proofs.Passed.{Permitted, permitted}
 use Rattle.book.proofs.Steps.{Held, entry-edited, held-edited, tablesOf, accepted-book, refusal-book}
+use Rattle.book.proofs.Reversals.{rule-reversed}
 
 -- a sum whose members are 0 from n on
 sumTo-beyond : (m n : ℕ) {f : ℕ → ℕ} → n ≤ m → ((i : ℕ) → n ≤ i → f i ≡ 0) → sumTo m f ≡ sumTo n f
@@ -114,9 +115,9 @@ module _ (n : ℕ) (e : Edit) (cost : List ℕ) (h : Held n cost) (p : Permitted
   over-touched f x hx = sumTo-cong n (λ s hs. rw (member s hs, entry-table n f s x hs hx))
 
   -- the promises of demand 3 for this edit
-  edited-rule : EditFacts n e (filled scale n cost) (filled scale n left) (rule n (edit e) cost .says)
+  edited-rule : accepted (rule n (edit e) cost .tests) ≡ true → EditFacts n e (filled scale n cost) (filled scale n left) (rule n (edit e) cost .says)
   unfolding filled rule score
-  edited-rule =
+  edited-rule ok =
       let shares : ℕ → ℕ → ℕ = λ s. share W n s scale in
       let shares′ : ℕ → ℕ → ℕ = λ s. share W′ n s scale in
       record {
@@ -126,6 +127,8 @@ module _ (n : ℕ) (e : Edit) (cost : List ℕ) (h : Held n cost) (p : Permitted
         moves = λ x hx.
             rw (getD-listTo n (score W n scale) 0 x hx, getD-listTo n (score W′ n scale) 0 x hx, over-touched shares x hx, over-touched shares′ x hx)
             (sumTo-move n touches (λ s. shares s x) (λ s. shares′ s x) (λ s hs away. share-stays s x hs hx away));
+        tells = refl;
+        reverses = rule-reversed n e cost h ok;
       }
 
 -- and for every accepted edit on the tables of a book
@@ -134,5 +137,5 @@ pub edited-book : (c : Call) (b : Book) (e : Edit) → Held (b .stops) (b .links
 unfolding after answer filled rule
 edited-book c b e h asked ok =
     let (same, fits, tests) = accepted-book c b (ap accepted (sym (refusal-book c b h) ∙ ok)) in
-    let p = permitted (c .n) e (b .links) (rw asked at tests) in
-    rw (ok, asked, ← same) (edited-rule (c .n) e (b .links) (rw same h) p)
+    let passed = (rw asked at tests) in
+    rw (ok, asked, ← same) (edited-rule (c .n) e (b .links) (rw same h) (permitted (c .n) e (b .links) passed) passed)

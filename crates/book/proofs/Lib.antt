@@ -12,6 +12,7 @@ pub mod Filled
 pub mod Passed
 pub mod Steps
 pub mod Audits
+pub mod Reversals
 pub mod Edits
 pub mod Sequence
 pub mod Calls

@@ -57,27 +57,32 @@ pub record Permitted (n : ℕ) (e : Edit) (cost : List ℕ) : Type 0 where
   pub differs : entry n cost (e .u) (e .v) ≢ costSet (e .kind) (e .cost)
   pub few : uncrowded mostWays n (withEdit n e cost) ≡ true
 
--- another cost for a link: it fits, it lies on the side that was asked for, and the tests behind pass
-other-cost-tests : (wanted : Bool) (c present : ℕ) (next : Refusal) → accepted (otherCostTests wanted c present next) ≡ true →
-    (c ≤ largestCost) × (wanted ≡ true) × (accepted next ≡ true)
+-- a cost from 1 to the largest
+pub up-to : (m x : ℕ) → upTo m x ≡ true → (0 < x) × (x ≤ m)
+up-to m x e = let (low, high) = and-eq-true-iff (leb 1 x) (leb x m) .0 e in (leb-true 1 x low, leb-true x m high)
+
+-- another cost for a link: it fits, there is a link, it lies on the side that was asked for, and the tests behind pass
+pub other-cost-tests : (wanted : Bool) (c present : ℕ) (next : Refusal) → accepted (otherCostTests wanted c present next) ≡ true →
+    (0 < c) × (c ≤ largestCost) × (0 < present) × (wanted ≡ true) × (accepted next ≡ true)
 other-cost-tests wanted c present next e =
     let (bounds, e₁) = need-true (upTo largestCost c) BadCost _ refl e in
     let (there, e₂) = need-true (ltb 0 present) LinkAbsent _ refl e₁ in
     let (on, e₃) = need-true wanted CostWrongSide next refl e₂ in
-    (leb-true c largestCost (and-eq-true-iff (leb 1 c) (leb c largestCost) .0 bounds .1), on, e₃)
+    let (some, fits) = up-to largestCost c bounds in
+    (some, fits, ltb-true 0 present there, on, e₃)
 
 pub cost-tests : (k : Kind) (c present : ℕ) (next : Refusal) → accepted (costTests k c present next) ≡ true →
     (costSet k c ≤ largestCost) × (present ≢ costSet k c) × (accepted next ≡ true)
 cost-tests Insert c present next e =
     let (bounds, e₁) = need-true (upTo largestCost c) BadCost _ refl e in
     let (absent, e₂) = need-true (eqb present 0) LinkPresent next refl e₁ in
-    let (low, high) = and-eq-true-iff (leb 1 c) (leb c largestCost) .0 bounds in
-    (leb-true c largestCost high, omega (arith, leb-true 1 c low, eqb-true present 0 absent), e₂)
+    let (some, fits) = up-to largestCost c bounds in
+    (fits, omega (arith, some, eqb-true present 0 absent), e₂)
 cost-tests Cheapen c present next e =
-    let (fits, less, e₁) = other-cost-tests (ltb c present) c present next e in
+    let (some, fits, there, less, e₁) = other-cost-tests (ltb c present) c present next e in
     (fits, omega (arith, ltb-true c present less), e₁)
 cost-tests Raise c present next e =
-    let (fits, more, e₁) = other-cost-tests (ltb present c) c present next e in
+    let (some, fits, there, more, e₁) = other-cost-tests (ltb present c) c present next e in
     (fits, omega (arith, ltb-true present c more), e₁)
 cost-tests Delete c present next e =
     let (there, e₁) = need-true (ltb 0 present) LinkAbsent next refl e in

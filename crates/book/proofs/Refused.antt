@@ -14,11 +14,12 @@ use Rattle.book.specs.declared.Refusal.{Refusal}
 abbrev pub bufferOf : Call → Tables → List ℕ
 bufferOf c t = rule (c .n) (c .ask) (t .cost) .lentBuffer
 
--- tables and buffer as found, an empty set, no rows, length 0
+-- tables and buffer as found, an empty set, no rows, no cost before, length 0
 pub record Unchanged (c : Call) (t t′ : Tables) (a : Answer) : Type 0 where
   pub tables : t′ ≡ t
   pub set : a .touched ≡ 0
   pub count : a .rows ≡ 0
+  pub before : a .before ≡ 0
   pub length : a .length ≡ 0
   pub buffer : a .buffer ≡ bufferOf c t
 
@@ -36,6 +37,7 @@ refused-unchanged c t t′ a d closed =
       tables = d .left ∙ rw same;
       set = ap (λ a. a .touched) said;
       count = ap (λ a. a .rows) said;
+      before = ap (λ a. a .before) said;
       length = ap (λ a. a .length) said;
       buffer = ap (λ a. a .buffer) said;
     }

@@ -10,13 +10,14 @@ use borrow.Author.Tests.{eq-eqb, lt-ltb}
 use Rattle.routes.specs.Route.{sumTo, has}
 use Rattle.routes.proofs.Sums.{sumTo-cong}
 use Rattle.book.specs.Hall.{Tables, mostStops, scale, upTo, entry, filled, sized, touched}
-use Rattle.book.specs.Call.{Call, emptyHall, workOut, edit, rule, refusal, after, answer, Done}
+use Rattle.book.specs.Call.{Call, emptyHall, workOut, edit, rule, refusal, after, answer, Done, reversal}
 use Rattle.book.specs.Book.{Book, bookAfter, noLinks, run, bookAnswers, Step, callsOf, lent, kept, withCost, Sequence, Started, changed, EditFacts, Demand3}
 use Rattle.book.specs.declared.Edit.{Edit}
 use Rattle.book.specs.declared.Refusal.the-variants.{Accepted, BadTables}
 use Rattle.book.proofs.Filled.{sized-filled}
 use Rattle.book.proofs.Answers.{book-refusal, done-refusal}
 use Rattle.book.proofs.Passed.{passed}
+use Rattle.book.proofs.Refused.{kept-left}
 use Rattle.book.proofs.Steps.{Held, held-none, held-worked, held-after, tablesOf, answer-made, kept-made, never-bad}
 use Rattle.book.proofs.Edits.{edited-book}
 
@@ -39,12 +40,12 @@ answers-made (s ∷ rest) b h (d, made) =
     ap₂ _∷_ (answer-made s b h d)
     (answers-made rest (bookAfter (s .call) b) (held-after (s .call) b h) (subst (λ t. Sequence t rest) (kept-made s b h d) made))
 
--- a part of a sequence is one, and the call behind it was lent what it left
+-- a part of a sequence is one, the call behind it was lent what it left, and the rest is a sequence from what that call left
 front : (made : List Step) (s : Step) (rest : List Step) (t : Tables) → Sequence t (made ++ s ∷ rest) →
-    Sequence t made × Done (s .call) (lent (s .call) (run kept made t)) (s .left) (s .answer)
+    Sequence t made × Done (s .call) (lent (s .call) (run kept made t)) (s .left) (s .answer) × Sequence (kept s (run kept made t)) rest
 unfolding run Sequence
-front [] s rest t (d, more) = (tt, d)
-front (m ∷ made) s rest t (d, more) = let (q, e) = front made s rest (kept m t) more in ((d, q), e)
+front [] s rest t (d, more) = (tt, d, more)
+front (m ∷ made) s rest t (d, more) = let (q, e, rest) = front made s rest (kept m t) more in ((d, q), e, rest)
 
 -- an accepted edit on the tables of a book has the facts that demand 3 wants
 edited-made : (s : Step) (b : Book) (e : Edit) → Held (b .stops) (b .links) → s .call .ask ≡ edit e →
@@ -85,7 +86,7 @@ demand3 N start steps from made = (
   at-end N start from steps made .0,
   answers-made steps (noLinks N) (held-first N start from) (subst (λ t. Sequence t steps) (start-book N start from) made),
   λ before rest s e split asked ok.
-      let (part, d) = front before s rest start (subst (Sequence start) split made) in
+      let (part, d, more) = front before s rest start (subst (Sequence start) split made) in
       of-books N start from (λ t. Done (s .call) (lent (s .call) t) (s .left) (s .answer) → EditFacts (s .call .n) e t (s .left) (s .answer)) before part
       (λ links h d. edited-made s (record { stops = N; links = links }) e h asked d ok) d,
 )
@@ -148,10 +149,31 @@ module _ (N : ℕ) (start : Tables) (from : Started N start) where
       λ u x. sumTo-cong n (λ i l. rw (member i l)) in
       (λ x l. f .changes x l ∙ member x l, f .counts ∙ sumTo-cong 64 (λ i l. rw (f .names i)), λ x l. rw (← over t x, ← over (s .left) x) (f .moves x l))
 
+  -- an accepted edit of a sequence that the next call reverses: that one is accepted too, leaves the five tables of before the edit,
+  -- and touches the same sources
+  pub reversed-next : (before rest : List Step) (s r : Step) (e : Edit) → Sequence start (before ++ s ∷ r ∷ rest) → s .call .ask ≡ edit e →
+      s .answer .refusal ≡ Accepted → r .call ≡ record { n = s .call .n; ask = edit (reversal (e .kind) (e .u) (e .v) (s .answer)) } →
+      let t : Tables = run kept before start in
+      (r .answer .refusal ≡ Accepted) × (kept r (kept s t) ≡ t) × (r .answer .touched ≡ s .answer .touched) × (r .answer .rows ≡ s .answer .rows)
+  unfolding Demand3 Sequence rule
+  reversed-next before rest s r e made asked ok back =
+      let back-of : Call = record { n = s .call .n; ask = edit (reversal (e .kind) (e .u) (e .v) (s .answer)) } in
+      let t : Tables = run kept before start in
+      let facts = demand3 N start (before ++ s ∷ r ∷ rest) from made .2 before (r ∷ rest) s e refl asked ok .reverses in
+      let (part, d, (d′, more)) = front before s (r ∷ rest) start made in
+      let same : kept s t ≡ s .left = kept-left s t d (ap (λ ask. lent (record { n = s .call .n; ask = ask }) t) asked) in
+      let lent-so : lent (r .call) (kept s t) ≡ kept s t = ap (λ c. lent c (kept s t)) back in
+      let done : Done back-of (s .left) (r .left) (r .answer) = subst (λ t. Done back-of t (r .left) (r .answer)) (lent-so ∙ same) (subst (λ c. Done c (lent (r .call) (kept s t)) (r .left) (r .answer)) back d′) in (
+        done-refusal back-of (s .left) done ∙ facts .taken,
+        kept-left r (kept s t) d′ lent-so ∙ done .left ∙ facts .gives,
+        ap (λ a. a .touched) (done .answered) ∙ facts .touches .0,
+        ap (λ a. a .rows) (done .answered) ∙ facts .touches .1,
+      )
+
   -- no call of a sequence answers 3
   pub never-three : (made : List Step) (s : Step) (rest : List Step) → Sequence start (made ++ s ∷ rest) → s .answer .refusal ≢ BadTables
   never-three made s rest all =
-      let (before, d) = front made s rest start all in
+      let (before, d, more) = front made s rest start all in
       of-books N start from (λ t. Done (s .call) (lent (s .call) t) (s .left) (s .answer) → s .answer .refusal ≢ BadTables) made before
       (λ links h d bad. let b : Book = record { stops = N; links = links } in never-bad (s .call) b (sym (ap (λ a. a .refusal) (answer-made s b h d) ∙ book-refusal (s .call) b) ∙ bad)) d
 

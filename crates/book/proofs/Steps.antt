@@ -60,7 +60,7 @@ module _ (n : ℕ) (e : Edit) (cost : List ℕ) (h : Held n cost) (p : Permitted
   }
 
 -- of the costs of tables that are right
-held-right : (n : ℕ) (t : Tables) → upTo mostStops n ≡ true → sized n t ≡ true → right scale mostWays n t ≡ true → Held n (t .cost)
+pub held-right : (n : ℕ) (t : Tables) → upTo mostStops n ≡ true → sized n t ≡ true → right scale mostWays n t ≡ true → Held n (t .cost)
 held-right n t size lengths sound =
     let (valid, few, same) = right-true scale mostWays n t sound in
     record { size = size; square = sized-cost n t lengths; valid = valid; few = few }

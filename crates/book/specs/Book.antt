@@ -7,7 +7,7 @@ use lib.Dec.{eqb, ltb}
 use lib.ListN.{getD, replicate}
 use Rattle.routes.specs.Route.{sumTo, allTo, has}
 use Rattle.book.specs.Hall.{Tables, scale, entry, filled, touched}
-use Rattle.book.specs.Call.{emptyHall, edit, Call, Rule, rule, Answer, accepted, chain, reply, Done}
+use Rattle.book.specs.Call.{emptyHall, edit, Call, Rule, rule, Answer, accepted, chain, reply, refusal, after, answer, Done, reversal}
 use Rattle.book.specs.declared.Edit.{Edit}
 use Rattle.book.specs.declared.Refusal.{Refusal}
 use Rattle.book.specs.declared.Refusal.the-variants.{Accepted}
@@ -76,6 +76,13 @@ changed n t t′ s =
     not (allTo n (λ x. eqb (entry n (t .time) s x) (entry n (t′ .time) s x) && (eqb (entry n (t .ways) s x) (entry n (t′ .ways) s x) &&
     eqb (entry n (t .share) s x) (entry n (t′ .share) s x))))
 
+-- the call c takes an edit back that was answered with a: made on the tables t′ that the edit left, it is accepted, gives back the
+-- five tables t of before, and touches the same sources
+pub record TakesBack (c : Call) (t t′ : Tables) (a : Answer) : Type 0 where
+  pub taken : refusal c t′ ≡ Accepted
+  pub gives : after c t′ ≡ t
+  pub touches : (answer c t′ .touched ≡ a .touched) × (answer c t′ .rows ≡ a .rows)
+
 -- an accepted edit, tables t before and t′ after; its set has 64 bits
 pub record EditFacts (n : ℕ) (e : Edit) (t t′ : Tables) (a : Answer) : Type 0 where
   pub names : (s : ℕ) → has (a .touched) s ≡ (ltb s n && touched n (t .cost) (t′ .cost) (e .u) (e .v) s)
@@ -84,6 +91,8 @@ pub record EditFacts (n : ℕ) (e : Edit) (t t′ : Tables) (a : Answer) : Type 
   pub moves : (x : ℕ) → x < n →
       getD (t′ .score) x 0 + sumTo n (λ s. cond (has (a .touched) s) (entry n (t .share) s x) 0) ≡
       getD (t .score) x 0 + sumTo n (λ s. cond (has (a .touched) s) (entry n (t′ .share) s x) 0)
+  pub tells : a .before ≡ entry n (t .cost) (e .u) (e .v)
+  pub reverses : TakesBack (record { n = n; ask = edit (reversal (e .kind) (e .u) (e .v) a) }) t t′ a
 
 -- five tables that an accepted empty hall with N filled, whatever it found in them
 pub record Started (N : ℕ) (start : Tables) : Type 0 where

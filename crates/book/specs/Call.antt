@@ -79,25 +79,27 @@ costSet Delete c = 0
 abbrev pub withEdit : ℕ → Edit → List ℕ → List ℕ
 withEdit n e cost = set cost (e .u * n + e .v) (costSet (e .kind) (e .cost))
 
--- an edit's set of touched sources and their number, an image write's length, and the buffer after the call
+-- an edit's set of touched sources, their number and what its link cost before, an image write's length, and the buffer after the call
 pub record Answer : Type 0 where
   pub refusal : Refusal
   pub touched : ℕ
   pub rows : ℕ
+  pub before : ℕ
   pub length : ℕ
   pub buffer : List ℕ
 
 -- the answer of any refused call, and of an accepted one that has no more to tell: the buffer is as it was lent
 abbrev pub plain : Refusal → List ℕ → Answer
-plain refusal buffer = record { refusal = refusal; touched = 0; rows = 0; length = 0; buffer = buffer }
+plain refusal buffer = record { refusal = refusal; touched = 0; rows = 0; before = 0; length = 0; buffer = buffer }
 
--- of an accepted call that names sources
-abbrev pub names : ℕ → (ℕ → Bool) → Answer
-names n sources = record { refusal = Accepted; touched = setOf n sources; rows = sumTo n (λ s. cond (sources s) 1 0); length = 0; buffer = [] }
+-- of an accepted call that names sources, and tells what a link cost before
+abbrev pub names : ℕ → (ℕ → Bool) → ℕ → Answer
+names n sources before =
+    record { refusal = Accepted; touched = setOf n sources; rows = sumTo n (λ s. cond (sources s) 1 0); before = before; length = 0; buffer = [] }
 
 -- of an accepted call that writes bytes in front of its buffer
 abbrev pub writes : (bytes buffer : List ℕ) → Answer
-writes bytes buffer = record { refusal = Accepted; touched = 0; rows = 0; length = length bytes; buffer = bytes ++ drop (length bytes) buffer }
+writes bytes buffer = record { refusal = Accepted; touched = 0; rows = 0; before = 0; length = length bytes; buffer = bytes ++ drop (length bytes) buffer }
 
 -- what a call is lent and looks at, over the present costs, and what it leaves and says if it is accepted
 pub record Rule : Type 0 where
@@ -121,7 +123,8 @@ rule n (workOut c) cost =
     record { lentCost = c; lentBuffer = []; fits = eqb (length c) (n * n); sound = λ t. true; tests = need (validCosts n c) BadCost (waysTest n c); leaves = c; says = plain Accepted [] }
 rule n (edit e) cost =
     let cost′ : List ℕ = withEdit n e cost in
-    onPresent cost (right scale mostWays n) (editTests n e cost (waysTest n cost′)) cost′ (names n (touched n cost cost′ (e .u) (e .v)))
+    let says : Answer = names n (touched n cost cost′ (e .u) (e .v)) (entry n cost (e .u) (e .v)) in
+    onPresent cost (right scale mostWays n) (editTests n e cost (waysTest n cost′)) cost′ says
 rule n (imageWrite buffer) cost =
     let image : List ℕ = imageOf n cost in
     record { lentCost = cost; lentBuffer = buffer; fits = true; sound = right scale mostWays n; tests = need (leb (length image) (length buffer)) ShortBuffer Accepted; leaves = cost; says = writes image buffer }
@@ -153,6 +156,16 @@ answer c t = reply (refusal c t) (rule (c .n) (c .ask) (t .cost))
 pub record Done (c : Call) (t t′ : Tables) (a : Answer) : Type 0 where
   pub left : t′ ≡ after c t
   pub answered : a ≡ answer c t
+
+-- the edit that reverses an accepted one, from its kind, its stops and its answer
+abbrev pub reverseKind : Kind → Kind
+reverseKind Insert = Delete
+reverseKind Cheapen = Raise
+reverseKind Raise = Cheapen
+reverseKind Delete = Insert
+
+abbrev pub reversal : Kind → (u v : ℕ) → Answer → Edit
+reversal kind u v a = record { kind = reverseKind kind; u = u; v = v; cost = a .before }
 
 -- image check, which is lent no table
 unfoldable pub imageCheck : ℕ → List ℕ → Refusal

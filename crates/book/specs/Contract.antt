@@ -42,10 +42,10 @@ abbrev pub ofRefusal : Refusal → Answer
 ofRefusal r = plain r []
 
 abbrev pub ofEdit : EditAnswer → Answer
-ofEdit a = record { refusal = a .refusal; touched = a .touched; rows = a .rows; length = 0; buffer = [] }
+ofEdit a = record { refusal = a .refusal; touched = a .touched; rows = a .rows; before = a .before; length = 0; buffer = [] }
 
 abbrev pub ofWrite : WriteAnswer → List ℕ → Answer
-ofWrite a buffer = record { refusal = a .refusal; touched = 0; rows = 0; length = a .length; buffer = buffer }
+ofWrite a buffer = record { refusal = a .refusal; touched = 0; rows = 0; before = 0; length = a .length; buffer = buffer }
 
 -- the door: tests 1 and 2 of the five lent tables
 abbrev pub doorTests : ℕ → Tables → Refusal

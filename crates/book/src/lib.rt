@@ -35,11 +35,13 @@ pub struct Edit {
     pub cost: u64,
 }
 
-// The answer of an edit: the set of touched sources, bit s for source s, and their number.
+// The answer of an edit: the set of touched sources, bit s for source s, their number, and what the link cost before, 0
+// where there was none.
 pub struct EditAnswer {
     pub refusal: Refusal,
     pub touched: u64,
     pub rows: u32,
+    pub before: u32,
 }
 
 // The answer of an image write, beside the buffer: the image's length.

@@ -2,6 +2,8 @@
 use book::Edit;
 use book::Kind;
 ghost use mathlib.Core.Path.{_≡_};
+ghost use mathlib.Core.Bool.{_&&_};
+ghost use lib.Dec.{leb};
 ghost use Rattle.calls.specs.Kinds.{kindOf};
 
 // The calls, by number.
@@ -48,6 +50,13 @@ pub fn plain(number: u64, n: u64) -> Call
         v: 0,
         cost: 0,
     }
+}
+
+// The edits stand side by side.
+pub fn is_edit(number: u64) -> bool
+    ensures { λ r. ⌜ r ≡ (leb 3 number && leb number 6) ⌝ }
+{
+    (INSERT <= number) & (number <= DELETE)
 }
 
 fn kind_of(number: u64) -> Kind

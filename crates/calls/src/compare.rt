@@ -45,8 +45,8 @@ pub fn answers(a: Answer, b: Answer) -> u64 {
         unlike(a.refusal, b.refusal),
         unlike(a.touched, b.touched),
         unlike(a.rows, b.rows),
+        unlike(a.before, b.before),
         unlike(a.length, b.length),
-        0,
     )
 }
 

@@ -1,7 +1,8 @@
 // Where things stand in the lent tables, and whether the tables have their lengths.
 ghost use mathlib.Core.Path.{_≡_};
 ghost use Prim.Native.Nat.{_*_, _<_, _≤_};
-ghost use Rattle.book.specs.Hall.{sized as isSized};
+ghost use lib.ListN.{length};
+ghost use Rattle.book.specs.Hall.{entry, sized as isSized};
 ghost use Rattle.book.specs.Contract.{found};
 ghost use Rattle.cells.specs.Promise.{Starts};
 
@@ -19,6 +20,14 @@ pub fn cells(n: usize) -> usize
     ensures { λ r. ⌜ (r ≡ n * n) × (r ≤ 4096) ⌝ }
 {
     n * n
+}
+
+// The cost of the link u to v, 0 where there is none.
+pub fn link_cost(n: usize, u: usize, v: usize, cost: &[u32]) -> u32
+    requires { ⌜ (u < n) × (v < n) × (n ≤ 64) × (length (now cost) ≡ n * n) ⌝ }
+    ensures { λ r. ⌜ r ≡ entry n (now (cost .entry)) u v ⌝ }
+{
+    cost[start(n, u) + v]
 }
 
 // Each of the five tables has its length.

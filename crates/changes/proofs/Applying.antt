@@ -7,7 +7,7 @@ use lib.Count.{ones}
 use lib.ListN.{length, set}
 use Rattle.routes.specs.Route.{setOf}
 use Rattle.routes.proofs.Bits.{ones-setOf}
-use Rattle.book.specs.Hall.{Tables, filled, touched}
+use Rattle.book.specs.Hall.{Tables, entry, filled, touched}
 use Rattle.book.specs.Contract.{tables, ofRefusal, ofEdit}
 use Rattle.book.specs.declared.Refusal.the-variants.{Accepted, TooManyWays}
 use Rattle.cells.specs.Promise.{Shares, summed}
@@ -39,10 +39,10 @@ module _ (m L n u v new : ℕ) (t : Tables) (h : Change m L n u v new (t .cost) 
   }
 
   pub applied : fits ≡ true → (sources : ℕ) → sources ≡ setOf n (touched n (t .cost) (set (t .cost) (u * n + v) new) u v) → (count : ℕ) → count ≡ ones sources →
-      length (t .score) ≡ n → (score′ : List ℕ) → score′ ≡ summed n n shares′ (t .score) →
-      Applied m L n u v new t (tables cost′ times′ counts′ shares′ score′) (ofEdit (record { refusal = Accepted; touched = sources; rows = count }))
+      (before : ℕ) → before ≡ entry n (t .cost) u v → length (t .score) ≡ n → (score′ : List ℕ) → score′ ≡ summed n n shares′ (t .score) →
+      Applied m L n u v new t (tables cost′ times′ counts′ shares′ score′) (ofEdit (record { refusal = Accepted; touched = sources; rows = count; before = before }))
   unfolding filled
-  applied f sources e count o long score′ sums = record {
+  applied f sources e count o before was long score′ sums = record {
     left = rw (← tried .said, f) λ i. record {
       cost = (rw f at costs) i;
       time = (rw f at (tried .times)) i;
@@ -50,5 +50,5 @@ module _ (m L n u v new : ℕ) (t : Tables) (h : Change m L n u v new (t .cost) 
       share = (rw f at (tried .shares)) i;
       score = (sums ∙ summed-whole n shares′ (t .score) long ∙ worked-scores L n (set (t .cost) (u * n + v) new) shares′ (rw f at (tried .shares))) i;
     };
-    answered = rw (← tried .said, f) λ i. ofEdit (record { refusal = Accepted; touched = e i; rows = (o ∙ ap ones e ∙ ones-setOf n _) i });
+    answered = rw (← tried .said, f) λ i. ofEdit (record { refusal = Accepted; touched = e i; rows = (o ∙ ap ones e ∙ ones-setOf n _) i; before = was i });
   }

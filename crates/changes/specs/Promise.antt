@@ -36,4 +36,4 @@ pub record Reworked (m L n : ℕ) (links : ℕ → ℕ → Bool) (all : Bool) (s
 pub record Applied (m L n u v new : ℕ) (t t′ : Tables) (a : Answer) : Type 0 where
   pub left : let cost′ : List ℕ = set (t .cost) (u * n + v) new in t′ ≡ cond (uncrowded m n cost′) (filled L n cost′) t
   pub answered : let cost′ : List ℕ = set (t .cost) (u * n + v) new in
-      a ≡ cond (uncrowded m n cost′) (names n (touched n (t .cost) cost′ u v)) (ofRefusal TooManyWays)
+      a ≡ cond (uncrowded m n cost′) (names n (touched n (t .cost) cost′ u v) (entry n (t .cost) u v)) (ofRefusal TooManyWays)

@@ -4,6 +4,7 @@ use book::EditAnswer;
 use book::Refusal;
 use book::limits::Hall;
 use book::number_of::passes;
+use cells::places;
 use cells::scores;
 ghost use mathlib.Core.Path.{_≡_};
 ghost use lib.ListN.{length};
@@ -19,6 +20,7 @@ pub fn refused(refusal: Refusal) -> EditAnswer
         refusal,
         touched: 0,
         rows: 0,
+        before: 0,
     }
 }
 
@@ -41,6 +43,7 @@ fn apply(
     requires { ⌜ length (now score) ≡ n ⌝ }
     ensures { λ r. ⌜ Applied limit scale n u v new (found cost time ways share score) (left cost time ways share score) (ofEdit r) ⌝ }
 {
+    let before = places::link_cost(n, u, v, cost);
     let touched = touch::touched_set(n, u, v, new, cost, time);
     if !rework::try_cost(limit, scale, n, u, v, new, touched, cost, time, ways, share) {
         return refused(Refusal::TooManyWays);
@@ -50,6 +53,7 @@ fn apply(
         refusal: Refusal::Accepted,
         touched,
         rows: u64::count_ones(touched),
+        before,
     }
 }
 

@@ -21,8 +21,8 @@ handed-number d e = handed d (ap ofNumber e)
 
 -- an edit's, and an image write's, field by field
 pub handed-edit : {c : Call} {t t′ : Tables} {a : EditAnswer} {x : HallEdited} → Done c t t′ (ofEdit a) →
-    x .refusal ≡ number (a .refusal) → x .touched ≡ a .touched → x .rows ≡ a .rows → Handed c t t′ (ofEdited x)
-handed-edit d e f g = handed d λ i. ofEdited (record { refusal = e i; touched = f i; rows = g i })
+    x .refusal ≡ number (a .refusal) → x .touched ≡ a .touched → x .rows ≡ a .rows → x .before ≡ a .before → Handed c t t′ (ofEdited x)
+handed-edit d e f g h = handed d λ i. ofEdited (record { refusal = e i; rows = g i; touched = f i; before = h i })
 
 pub handed-write : {c : Call} {t t′ : Tables} {a : WriteAnswer} {x : HallWritten} {buffer : List ℕ} → Done c t t′ (ofWrite a buffer) →
     x .refusal ≡ number (a .refusal) → x .length ≡ a .length → Handed c t t′ (ofWritten x buffer)

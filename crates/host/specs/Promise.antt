@@ -12,21 +12,22 @@ pub record Numbers : Type 0 where
   pub refusal : ℕ
   pub touched : ℕ
   pub rows : ℕ
+  pub before : ℕ
   pub length : ℕ
   pub buffer : List ℕ
 
 abbrev pub inNumbers : Answer → Numbers
-inNumbers a = record { refusal = number (a .refusal); touched = a .touched; rows = a .rows; length = a .length; buffer = a .buffer }
+inNumbers a = record { refusal = number (a .refusal); touched = a .touched; rows = a .rows; before = a .before; length = a .length; buffer = a .buffer }
 
 -- the answers as the C face gives them: a refusal alone, an edit's, and an image write's with its buffer
 abbrev pub ofNumber : ℕ → Numbers
-ofNumber r = record { refusal = r; touched = 0; rows = 0; length = 0; buffer = [] }
+ofNumber r = record { refusal = r; touched = 0; rows = 0; before = 0; length = 0; buffer = [] }
 
 abbrev pub ofEdited : HallEdited → Numbers
-ofEdited a = record { refusal = a .refusal; touched = a .touched; rows = a .rows; length = 0; buffer = [] }
+ofEdited a = record { refusal = a .refusal; touched = a .touched; rows = a .rows; before = a .before; length = 0; buffer = [] }
 
 abbrev pub ofWritten : HallWritten → List ℕ → Numbers
-ofWritten a buffer = record { refusal = a .refusal; touched = 0; rows = 0; length = a .length; buffer = buffer }
+ofWritten a buffer = record { refusal = a .refusal; touched = 0; rows = 0; before = 0; length = a .length; buffer = buffer }
 
 -- a call did what document 01 says: the tables that it left, and its answer
 pub record Handed (c : Call) (t t′ : Tables) (x : Numbers) : Type 0 where

@@ -16,12 +16,13 @@ ghost use Rattle.book.specs.Contract.{found, left, leftBeside};
 ghost use Rattle.book.specs.declared.Kind.the-variants.{Insert, Cheapen, Raise, Delete};
 ghost use Rattle.host.specs.Promise.{Handed, ofNumber, ofEdited, ofWritten};
 
-// An edit's refusal, the number of touched sources, and their set.
+// An edit's refusal, the number of touched sources, their set, and the cost before.
 #[repr(C)]
 pub struct HallEdited {
     pub refusal: u32,
     pub rows: u32,
     pub touched: u64,
+    pub before: u32,
 }
 
 // An image write's refusal, and the length of the image.
@@ -100,6 +101,7 @@ fn edited(
         refusal: number_of(refusal),
         rows: done.rows,
         touched: done.touched,
+        before: done.before,
     }
 }
 

@@ -4,12 +4,15 @@ use super::tables;
 use calls::answer::Answer;
 use calls::call::Call;
 use calls::compare::differing;
+use calls::compare::sum;
 use calls::compare::unlike;
+use calls::entries::at;
 use calls::entries::at_long;
 use calls::entries::put;
 use calls::tables::CELLS;
 use calls::tables::Tables;
 use calls::tables::cells;
+use calls::tables::place;
 use make_call::Done;
 
 // Takes the first entries over from a table of 64 bits.
@@ -58,11 +61,25 @@ fn touched(call: Call, before: Tables, after: Tables, refusal: u64) -> u64 {
     lister::touched(&before.cost, &after.cost, call.n, call.u, call.v)
 }
 
-// How many of an edit's set and number are not the lister's.
+// What an edit's link cost before it; 0 where the edit is refused.
+fn cost_before(call: Call, before: Tables, refusal: u64) -> u64 {
+    if refusal != 0 {
+        return 0;
+    }
+    at(&before.cost, place(call.n, call.u, call.v))
+}
+
+// How many of an edit's set and number are not the lister's, and its cost before not that of the tables before it.
 pub fn unlisted_answer(call: Call, before: Tables, after: Tables, answer: Answer) -> u64 {
     let set = touched(call, before, after, answer.refusal);
-    let sets = unlike(answer.touched, set);
-    std::num::wrapping_add_u64(sets, unlike(answer.rows, lister::number(set)))
+    let cost = cost_before(call, before, answer.refusal);
+    sum(
+        unlike(answer.touched, set),
+        unlike(answer.rows, lister::number(set)),
+        unlike(answer.before, cost),
+        0,
+        0,
+    )
 }
 
 // How much of what an edit answered and, where it was accepted, left is not the lister's; `after` are

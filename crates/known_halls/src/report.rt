@@ -83,6 +83,7 @@ fn edited(name: &[u8], call: Call, t: Tables) -> Tables {
     field(name, answer.refusal);
     field(b", touched ", answer.touched);
     field(b", rows ", answer.rows);
+    field(b", cost before ", answer.before);
     let unlisted = listed::unlisted_answer(call, t, wanted, answer);
     held(call.n, answer.refusal, unlisted, wanted, left);
     left

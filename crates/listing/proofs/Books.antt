@@ -37,7 +37,7 @@ empty-audited n t t′ a i d =
 
 module _ {n : ℕ} {t : Tables} (s : Audited n t) where
   -- tables that pass the audit are those of the book with their costs
-  held : Held n (t .cost)
+  pub held : Held n (t .cost)
   held =
       let (valid, few, same) = right-true scale mostWays n t (s .sound) in
       record { size = s .inside .size; square = sized-cost n t (s .inside .lengths); valid = valid; few = few }

@@ -5,6 +5,7 @@ use mathlib.Core.Path.{_≡_, refl, _∙_, ap}
 use mathlib.Core.List.{List, []}
 use native.Mathlib.Omega.{arith}
 use lib.ListN.{length, getD, take, drop, drop-of-length-le}
+use lib.Seq.{length-take-le}
 use Rattle.routes.specs.Route.{joinTo, listTo, score}
 use Rattle.routes.proofs.Rows.{length-listTo, getD-listTo}
 use Rattle.bytes.specs.Bytes.{indexOf}
@@ -12,23 +13,23 @@ use Rattle.book.specs.Hall.{Tables, scale, entry, filled, right}
 use Rattle.book.specs.Contract.{Audited}
 use Rattle.words.specs.declared.Line.{Line}
 use Rattle.words.specs.Text.{longest, parts, lines, words, lineOf, stopLine, said, report}
-use Rattle.print.specs.Promise.{hallBytes, lineBytes, Printed}
+use Rattle.print.specs.Promise.{hallBytes, unreadBytes, Printed}
 use Rattle.listing.specs.Promise.{bookOf, Room, Stepped}
-use Rattle.words.proofs.Reading.{from as part, line-next, index-inside}
+use Rattle.words.proofs.Reading.{from as part, line-next, index-within, index-inside}
 use Rattle.print.proofs.Printing.{Left, go-on, last}
-use Rattle.print.proofs.Lengths.{said-short}
-use Rattle.listing.proofs.Books.{own, few-stops, next-audited}
+use Rattle.print.proofs.Lengths.{said-short, said-within}
+use Rattle.listing.proofs.Books.{held, own, next-audited}
 
 -- line i fits where it has room
 pub line-fits : {n : ℕ} {t : Tables} (s : Audited n t) (l : Line) {i at : ℕ} {out : List ℕ} → Room i at out → at + length (said i (bookOf n t) l) ≤ length out
-line-fits {n} {t} s l {i} r = omega (arith, r .space, said-short i (bookOf n t) l (r .count) (few-stops s))
+line-fits {n} {t} s l {i} r = omega (arith, r .space, said-short i (bookOf n t) l (r .count) (held s))
 
 -- between two lines: line i begins at place `from` of the text, and the tables are those of the book before it
 pub record Going (n : ℕ) (text : List ℕ) (first : ℕ) (out₀ : List ℕ) (start : ℕ) (t₀ t : Tables) (out : List ℕ) (at i from : ℕ) : Type 0 where
   pub right : Audited n t
   pub long : length out ≡ length out₀
   pub near : from ≤ length text + 1
-  pub short : at ≤ hallBytes + lineBytes * from
+  pub short : at ≤ hallBytes + unreadBytes * from
   pub count : i ≤ from + 2
   pub left : Left (report i (bookOf n t) (lines (drop from text))) at out (report 2 (bookOf n t₀) (lines (drop first text))) start out₀
 
@@ -54,12 +55,14 @@ module _ {n : ℕ} {text : List ℕ} {first : ℕ} {out₀ : List ℕ} {start : 
   advance e t′ end out′ inside most index s same =
       let l : Line = lineOf (words (take e (part from text))) in
       let (book, right) = next-audited (g .right) l t′ (s .left) in
-      let long : length (said i (bookOf n t) l) ≤ lineBytes = said-short i (bookOf n t) l (omega (arith, g .count)) (few-stops (g .right)) in
+      let line : List ℕ = take e (part from text) in
+      let long = said-within i (bookOf n t) line (omega (arith, g .count)) (held (g .right)) in
+      let cut : length line ≡ e = length-take-le e (part from text) (omega (arith, index-within 10 (part from text))) in
       record {
         right = right;
         long = same ∙ g .long;
         near = omega (arith, index-inside text from e inside index);
-        short = omega (arith, g .short, s .printed .behind);
+        short = omega (arith, g .short, s .printed .behind, long, cut);
         count = omega (arith, g .count);
         left = rw book (go-on (rw (line-next text from e inside index) at (g .left)) (s .printed));
       }

@@ -12,9 +12,9 @@ use Rattle.words.specs.declared.Line.{Line}
 use Rattle.print.specs.Promise.{hallBytes, lineBytes, Printed}
 use Rattle.listing.specs.declared.Listed.{Listed}
 
--- room for the listing of any text. A text has at most 32,768 bytes, and the shortest line, an empty one, takes one of them, its line
--- feed; so there are at most 32,769 lines after the first, the last without a line feed, and 64 scores:
--- 24 + 32,769 × 13 + 64 × 35 = 428,261 bytes, rounded up
+-- room for the listing of any text. A text has at most 32,768 bytes, and a line prints at most 13 for each of its own, its line feed
+-- among them, which the last line may lack: an empty line is unread, and an edit's 17 come from at least ten bytes. With the first line
+-- and 64 scores: 24 + 32,769 × 13 + 64 × 35 = 428,261 bytes, rounded up
 abbrev pub room : ℕ
 room = 430000
 

@@ -1,13 +1,12 @@
 -- What the tests of an edit's arguments tell. Assumes nothing.
-use Prim.Native.Nat.{ℕ, _+_, _*_, _<_}
+use Prim.Native.Nat.{ℕ, _<_}
 use mathlib.Core.Path.{_≡_}
 use mathlib.Core.Logic.{_≢_}
 use mathlib.Core.Bool.{true, not, _&&_, and-eq-true-iff}
 use mathlib.Core.List.{List}
 use lib.Dec.{eqb, ltb}
-use lib.ListN.{getD}
 use borrow.Author.Tests.{eqb-false, ltb-true, not-true}
-use Rattle.book.specs.Hall.{validPair}
+use Rattle.book.specs.Hall.{entry, validPair}
 use Rattle.book.specs.Call.{costTests, editTests}
 use Rattle.book.specs.declared.Edit.{Edit}
 use Rattle.book.specs.declared.Kind.{Kind}
@@ -21,7 +20,7 @@ pair-true n u v e =
     let (to, apart) = and-eq-true-iff (ltb v n) (not (eqb u v)) .0 rest in
     (ltb-true u n from, ltb-true v n to, eqb-false u v (not-true (eqb u v) apart))
 
--- 5 to 8 by the kind, and the entry at its place
-pub by-kind : (n : ℕ) (e : Edit) (cost : List ℕ) {k : Kind} {at : ℕ} {r : Refusal} → validPair n (e .u) (e .v) ≡ true → e .kind ≡ k → at ≡ e .u * n →
-    r ≡ costTests k (e .cost) (getD cost (at + e .v) 0) Accepted → r ≡ editTests n e cost Accepted
-by-kind n e cost pair kind place h = rw (pair, kind, ← place) h
+-- 5 to 8 by the kind and the present cost
+pub by-kind : (n : ℕ) (e : Edit) (cost : List ℕ) {k : Kind} {present : ℕ} {r : Refusal} → validPair n (e .u) (e .v) ≡ true → e .kind ≡ k →
+    present ≡ entry n cost (e .u) (e .v) → r ≡ costTests k (e .cost) present Accepted → r ≡ editTests n e cost Accepted
+by-kind n e cost pair kind now h = rw (pair, kind, ← now) h

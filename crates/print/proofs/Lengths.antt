@@ -1,22 +1,28 @@
 -- Laws of the lengths of printed lines. Assumes nothing.
-use Prim.Native.Nat.{ℕ, _+_, _^_, _<_, _≤_}
+use Prim.Native.Nat.{ℕ, _+_, _*_, _^_, _<_, _≤_}
+use mathlib.Core.Path.{_≡_}
 use mathlib.Core.Bool.{Bool, true, false, cond}
+use mathlib.Core.List.{List, [], _∷_}
 use native.Mathlib.Omega.{arith}
 use lib.Dec.{lit<}
 use lib.ListN.{length, length-append}
 use Rattle.routes.specs.Route.{sumTo}
 use Rattle.routes.proofs.Sums.{sumTo-bound}
-use Rattle.book.specs.Hall.{mostStops, scale, touched}
-use Rattle.book.specs.Call.{edit, number, Answer, withEdit, rule}
+use Rattle.book.specs.Hall.{mostStops, largestCost, scale, entry, touched}
+use Rattle.book.specs.Call.{Call, edit, number, accepted, withEdit, rule}
 use Rattle.book.specs.Book.{Book, bookRefusal, bookAnswer}
 use Rattle.book.proofs.Answers.{reply-either}
+use Rattle.book.proofs.Sizes.{stops}
+use Rattle.book.proofs.Tables.{valid-costs}
+use Rattle.book.proofs.Passed.{permitted}
+use Rattle.book.proofs.Steps.{Held, accepted-book}
 use Rattle.book.specs.declared.Edit.{Edit}
 use Rattle.book.specs.declared.Refusal.{Refusal}
 use Rattle.book.specs.declared.Refusal.the-variants.{Accepted, BadSize, BadLength, BadTables, BadStop, BadCost, LinkPresent, LinkAbsent, CostWrongSide, BadImage, ShortBuffer, TooManyWays}
 use Rattle.words.specs.declared.Line.{Line}
 use Rattle.words.specs.declared.Line.the-variants.{Read, Unread}
-use Rattle.words.specs.Text.{longest, bytes, hallLine, stopLine, said}
-use Rattle.print.specs.Promise.{hallBytes, lineBytes, stopBytes}
+use Rattle.words.specs.Text.{longest, bytes, parts, words, lineOf, decimal, hallLine, editLine, unreadLine, stopLine, said}
+use Rattle.print.specs.Promise.{hallBytes, unreadBytes, lineBytes, stopBytes}
 use Rattle.print.proofs.Printing.{decimal-below}
 
 -- a printed line is short
@@ -41,19 +47,52 @@ ones n p = omega (arith, sumTo-bound n 1 {f = λ s. cond (p s) 1 0} (λ s l. one
     one true = omega arith
     one false = omega arith
 
-rows-short : (n : ℕ) (x : Edit) (b : Book) → bookAnswer (record { n = n; ask = edit x }) b .rows ≤ n
-unfolding bookAnswer rule
-rows-short n x b =
-    reply-either (λ a. a .rows ≤ n) (bookRefusal (record { n = n; ask = edit x }) b) (rule n (edit x) (b .links))
-    (ones n (touched n (b .links) (withEdit n x (b .links)) (x .u) (x .v))) (omega arith)
+-- of an edit of a hall: its number is short where it is refused, its rows and the cost before where it is accepted
+edit-short : (i : ℕ) (x : Edit) (b : Book) → i ≤ longest + 1 → Held (b .stops) (b .links) → length (editLine i (bookAnswer (record { n = b .stops; ask = edit x }) b)) ≤ lineBytes
+unfolding bookAnswer rule bytes
+edit-short i x b h held =
+    reply-either (λ a. length (editLine i a) ≤ lineBytes) (bookRefusal call b) (rule n (edit x) (b .links))
+    (λ ok. simp length-append (omega (arith, line, decimal-below 0 0 (lit< tt), decimal-below 1 rows (omega (arith, few)), decimal-below 4 before (omega (arith, most ok)))))
+    (simp length-append (omega (arith, line, decimal-below 1 (number (bookRefusal call b)) (number-short (bookRefusal call b)), decimal-below 0 0 (lit< tt))))
+  where
+    n : ℕ
+    n = b .stops
 
-pub said-short : (i : ℕ) (b : Book) (l : Line) → i ≤ longest + 1 → b .stops ≤ mostStops → length (said i b l) ≤ lineBytes
-unfolding said bytes
-said-short i b Unread h s = simp length-append (omega (arith, decimal-below 4 i (omega arith)))
-said-short i b (Read x) h s =
-    let a : Answer = bookAnswer (record { n = b .stops; ask = edit x }) b in
-    let rows : a .rows < 100 = omega (arith, rows-short (b .stops) x b) in
-    simp length-append (omega (arith, decimal-below 4 i (omega arith), decimal-below 1 (number (a .refusal)) (number-short (a .refusal)), decimal-below 1 (a .rows) rows))
+    call : Call
+    call = record { n = n; ask = edit x }
+
+    rows : ℕ
+    rows = sumTo n (λ s. cond (touched n (b .links) (withEdit n x (b .links)) (x .u) (x .v) s) 1 0)
+
+    before : ℕ
+    before = entry n (b .links) (x .u) (x .v)
+
+    line : length (decimal i) ≤ 5
+    line = decimal-below 4 i (omega arith)
+
+    few : rows ≤ mostStops
+    few = omega (arith, ones n (touched n (b .links) (withEdit n x (b .links)) (x .u) (x .v)), stops n (held .size) .1)
+
+    most : accepted (bookRefusal call b) ≡ true → before ≤ largestCost
+    most ok =
+        let p = permitted n x (b .links) (accepted-book call b ok .2) in
+        valid-costs n (b .links) (held .valid) .most (x .u) (x .v) (p .from) (p .to)
+
+pub unread-short : (i : ℕ) → i ≤ longest + 1 → length (unreadLine i) ≤ unreadBytes
+unfolding bytes
+unread-short i h = simp length-append (omega (arith, decimal-below 4 i (omega arith)))
+
+-- a line prints at most so much
+pub said-short : (i : ℕ) (b : Book) (l : Line) → i ≤ longest + 1 → Held (b .stops) (b .links) → length (said i b l) ≤ lineBytes
+unfolding said
+said-short i b Unread h held = omega (arith, unread-short i h)
+said-short i b (Read x) h held = edit-short i x b h held
+
+-- and at most an unread line for each of its bytes, its line feed among them: an empty one is unread
+pub said-within : (i : ℕ) (b : Book) (line : List ℕ) → i ≤ longest + 1 → Held (b .stops) (b .links) → length (said i b (lineOf (words line))) ≤ unreadBytes * (length line + 1)
+unfolding said lineOf parts
+said-within i b [] h held = omega (arith, unread-short i h)
+said-within i b (x ∷ line) h held = omega (arith, said-short i b (lineOf (words (x ∷ line))) h held)
 
 pub stop-short : (v x : ℕ) → v < 100 → x < 2 ^ 64 → length (stopLine v x) ≤ stopBytes
 unfolding bytes

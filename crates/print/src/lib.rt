@@ -59,7 +59,8 @@ pub fn edit_line(i: u64, a: EditAnswer, out: &mut [u8], at: usize) -> usize
     let x = decimal(i, out, at);
     let y = labelled(b" ", number_of(refusal) as u64, out, x);
     let z = labelled(b" ", a.rows as u64, out, y);
-    put(b"\n", out, z)
+    let end = labelled(b" ", a.before as u64, out, z);
+    put(b"\n", out, end)
 }
 
 // The line of a stop.

@@ -11,6 +11,7 @@ use super::places::BYTES;
 use super::places::CELLS;
 use super::places::byte;
 use super::places::put_byte;
+use calls::answer::Answer;
 use calls::call::AUDIT;
 use calls::call::CHEAPEN;
 use calls::call::Call;
@@ -322,6 +323,36 @@ pub fn ask(seed: &mut u64, number: u64, stops: u64, cost: [u32; CELLS]) -> Ask {
         cost: table,
         bytes,
         length: image.length,
+    }
+}
+
+fn opposite(number: u64) -> u64 {
+    match number {
+        INSERT => DELETE,
+        CHEAPEN => RAISE,
+        RAISE => CHEAPEN,
+        _ => INSERT,
+    }
+}
+
+// The edit that takes an accepted one back: the opposite one of the same link, at the cost that it answered.
+pub fn reversal(ask: Ask, answer: Answer) -> Ask {
+    let made = ask.call;
+    let cost = ask.cost;
+    let bytes = ask.bytes;
+    let call = Call {
+        number: opposite(made.number),
+        n: made.n,
+        u: made.u,
+        v: made.v,
+        cost: answer.before,
+    };
+    Ask {
+        call,
+        odd: ask.odd,
+        cost,
+        bytes,
+        length: ask.length,
     }
 }
 

@@ -5,6 +5,7 @@ use super::model::Book;
 use super::model::Verdict;
 use super::outcome::Outcome;
 use super::places::BYTES;
+use calls::answer::Answer;
 use calls::compare::answers;
 use calls::compare::differing;
 use calls::compare::long;
@@ -56,6 +57,17 @@ fn said(outcome: Outcome, verdict: Verdict) -> u64 {
     let right = verdict.answer;
     let buffers = !alike(&outcome.bytes, &verdict.bytes, BYTES) as u64;
     wrapping_add_u64(answers(answer, right), buffers)
+}
+
+// What an edit left that was to take another one back, and its answer, against the tables before the other one and its answer.
+pub fn taken_back(former: Tables, undone: Answer, left: Tables, answer: Answer) -> u64 {
+    sum(
+        differing(left, former),
+        unlike(answer.refusal, 0),
+        unlike(answer.touched, undone.touched),
+        unlike(answer.rows, undone.rows),
+        0,
+    )
 }
 
 // An outcome against its verdict. An accepted call leaves the tables of the book; a refused one leaves

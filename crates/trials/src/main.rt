@@ -12,6 +12,7 @@ mod tally;
 use calls::answer::Answer;
 use calls::call::IMAGE_CHECK;
 use calls::call::WORK_OUT;
+use calls::call::is_edit;
 use calls::tables::Tables;
 use calls::tables::filled;
 use chance::draw;
@@ -25,10 +26,11 @@ use tally::add;
 
 const RUNS: u64 = 2500;
 
-// The book, the five tables, and whether the last call was refused.
+// The book, the five tables, what the last call answered, and whether it was to be refused.
 struct State {
     book: Book,
     hall: Tables,
+    answer: Answer,
     refused: bool,
 }
 
@@ -68,6 +70,7 @@ fn trial(
     State {
         book: next,
         hall: left,
+        answer,
         refused,
     }
 }
@@ -92,11 +95,60 @@ fn spoiled_trial(
     if !next.refused {
         return next;
     }
+    let answer = next.answer;
     State {
         book,
         hall,
+        answer,
         refused: true,
     }
+}
+
+// Takes an accepted edit back, from what it answered: the five tables are to be those before it.
+fn taken_back(
+    tally: &mut [u64; ROOM],
+    ask: Ask,
+    stops: u64,
+    former: Tables,
+    state: State,
+) -> State {
+    let book = state.book;
+    let hall = state.hall;
+    let undone = state.answer;
+    tally::add_reversed(tally, ask.call.number);
+    let next = trial(
+        tally,
+        choose::reversal(ask, undone),
+        stops,
+        book,
+        hall,
+        false,
+    );
+    let left = next.hall;
+    let answer = next.answer;
+    tally::add_differences(tally, compare::taken_back(former, undone, left, answer));
+    next
+}
+
+// An accepted edit is now and then taken back at once.
+fn or_back(
+    seed: &mut u64,
+    tally: &mut [u64; ROOM],
+    ask: Ask,
+    stops: u64,
+    former: Tables,
+    state: State,
+) -> State {
+    if state.refused {
+        return state;
+    }
+    if !is_edit(ask.call.number) {
+        return state;
+    }
+    if !once_in(seed, 3) {
+        return state;
+    }
+    taken_back(tally, ask, stops, former, state)
 }
 
 // A call with chosen arguments.
@@ -110,7 +162,8 @@ fn step(seed: &mut u64, tally: &mut [u64; ROOM], stops: u64, state: State, call:
             return spoiled_trial(seed, tally, ask, stops, book, hall);
         }
     }
-    trial(tally, ask, stops, book, hall, false)
+    let next = trial(tally, ask, stops, book, hall, false);
+    or_back(seed, tally, ask, stops, hall, next)
 }
 
 // An empty hall, over tables of any content.

@@ -20,6 +20,7 @@ use calls::call::IMAGE_WRITE;
 use calls::call::INSERT;
 use calls::call::RAISE;
 use calls::call::WORK_OUT;
+use calls::call::is_edit;
 use calls::entries::at;
 use calls::entries::at_long;
 use calls::tables::cells;
@@ -271,16 +272,20 @@ fn wrote(ask: Ask, stops: u64, book: Book) -> Verdict {
 // The sources that an accepted edit touches.
 fn touched(ask: Ask, stops: u64, before: [u32; CELLS], after: [u32; CELLS]) -> u64 {
     let call = ask.call;
-    let number = call.number;
-    match number {
-        INSERT | CHEAPEN | RAISE | DELETE => lister::touched(
-            &before,
-            &after,
-            stops,
-            call.u,
-            call.v,
-        ),
-        _ => 0,
+    if is_edit(call.number) {
+        lister::touched(&before, &after, stops, call.u, call.v)
+    } else {
+        0
+    }
+}
+
+// What the link of an accepted edit cost before it; 0 for any other call.
+fn cost_before(ask: Ask, stops: u64, before: [u32; CELLS]) -> u64 {
+    let call = ask.call;
+    if is_edit(call.number) {
+        at(&before, place(stops, call.u, call.v))
+    } else {
+        0
     }
 }
 
@@ -297,6 +302,7 @@ fn changed(ask: Ask, stops: u64, book: Book) -> Verdict {
     let mut answer = of_number(0);
     answer.touched = set;
     answer.rows = lister::number(set);
+    answer.before = cost_before(ask, stops, before);
     Verdict {
         answer,
         book: next,

@@ -34,7 +34,10 @@ pub const SPOILED: usize = SEQUENCES + 6;
 // The number of the first answer with a difference.
 pub const FIRST: usize = SEQUENCES + 7;
 
-pub const ROOM: usize = SEQUENCES + 8;
+// Accepted edits that the next call took back, by call.
+const REVERSED: usize = SEQUENCES + 8;
+
+pub const ROOM: usize = REVERSED + CALLS;
 
 pub fn add(tally: &mut [u64; ROOM], i: usize, x: u64) {
     if i < ROOM {
@@ -56,6 +59,18 @@ pub fn add_differences(tally: &mut [u64; ROOM], differ: u64) {
         add(tally, FIRST, answer);
     }
     add(tally, DIFFERENCES, differ);
+}
+
+// Where the tally has the edits that were taken back, of a call.
+fn reversed(call: u64) -> usize {
+    if CALLS as u64 <= call {
+        return ROOM;
+    }
+    REVERSED + call as usize
+}
+
+pub fn add_reversed(tally: &mut [u64; ROOM], call: u64) {
+    add(tally, reversed(call), 1);
 }
 
 // Where the tally has a refusal of a call.
@@ -116,6 +131,10 @@ pub fn write(tally: &[u64; ROOM]) {
     line(b"touched sources", count(tally, TOUCHED));
     line(b"accepted with ties", count(tally, TIES));
     line(b"entries drawn anew", count(tally, SPOILED));
+    line(b"inserts reversed", count(tally, reversed(INSERT)));
+    line(b"cheapens reversed", count(tally, reversed(CHEAPEN)));
+    line(b"raises reversed", count(tally, reversed(RAISE)));
+    line(b"deletes reversed", count(tally, reversed(DELETE)));
     refusals(tally);
     refusals_of(b"empty hall", tally, EMPTY_HALL);
     refusals_of(b"work out", tally, WORK_OUT);

@@ -118,12 +118,12 @@ decimal x = decimalTo 19 x
 abbrev pub labelled : String → ℕ → List ℕ
 labelled text x = bytes text ++ decimal x
 
--- the printed lines: n and scale; an edit's line number, refusal and touched rows; an unread line's number; a stop's score
+-- the printed lines: n and scale; an edit's line number, refusal, touched rows and cost before; an unread line's number; a stop's score
 abbrev pub hallLine : ℕ → List ℕ
 hallLine n = labelled "hall " n ++ labelled " scale " scale ++ bytes "\n"
 
 abbrev pub editLine : ℕ → Answer → List ℕ
-editLine i a = decimal i ++ labelled " " (number (a .refusal)) ++ labelled " " (a .rows) ++ bytes "\n"
+editLine i a = decimal i ++ labelled " " (number (a .refusal)) ++ labelled " " (a .rows) ++ labelled " " (a .before) ++ bytes "\n"
 
 abbrev pub unreadLine : ℕ → List ℕ
 unreadLine i = decimal i ++ bytes " unread\n"

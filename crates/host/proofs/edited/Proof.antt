@@ -8,7 +8,7 @@ use Rattle.host.proofs.edited.Tie as tie
 returns : tie.Need-returns
 returns c =
     let number-of : tie.After-number-of = search in let edit : tie.After-edit = search in
-    handed-edit (edit .edit .ensures) (number-of .number-of .ensures) refl refl
+    handed-edit (edit .edit .ensures) (number-of .number-of .ensures) refl refl refl
 
 pub edited-spec : {M : Type 1} → statement M
 edited-spec =

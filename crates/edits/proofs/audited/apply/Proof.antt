@@ -10,6 +10,12 @@ use Rattle.changes.proofs.Applying.{shares-applied, not-applied, applied}
 use Rattle.edits.proofs.audited.apply.Statement.{statement}
 use Rattle.edits.proofs.audited.apply.Tie as tie
 
+link-cost-requires : tie.Need-link-cost-requires
+link-cost-requires c κs =
+    let start : tie.Start = search in
+    let h = start .pre .1 .0 in
+    (h .from, h .to, h .most, h .square)
+
 touched-set-requires : tie.Need-touched-set-requires
 touched-set-requires c κs =
     let start : tie.Start = search in
@@ -40,6 +46,7 @@ sum-scores-requires c κs =
 returns-2 : tie.Need-returns-2
 returns-2 c =
     let start : tie.Start = (let c : tie.After-try-cost = search in search) in
+    let before = (let c : tie.After-try-cost = search in let p : tie.After-link-cost = search in p .link-cost) in
     let touched = (let c : tie.After-try-cost = search in let p : tie.After-touched-set = search in p .touched-set) in
     let try-cost = (let p : tie.After-try-cost = search in p .try-cost) in
     let if1 : tie.Else1 = search in let sum-scores : tie.After-sum-scores = search in
@@ -47,12 +54,12 @@ returns-2 c =
     let h = start .pre .1 .0 in
     let e = try-cost .ensures in
     applied (a .limit) (a .scale) (a .n) (a .u) (a .v) (a .new) (tables (a .cost .now) (a .time .now) (a .ways .now) (a .share .now) (a .score .now)) h _ _ _ _ _ (e .0) (e .1) (not-false _ (if1 .if1 .left))
-    _ (touched-set h _ (touched .ensures)) _ refl (start .pre .1 .1) _ (sum-scores .sum-scores .ensures)
+    _ (touched-set h _ (touched .ensures)) _ refl _ (before .ensures) (start .pre .1 .1) _ (sum-scores .sum-scores .ensures)
 
 pub apply-spec : {M : Type 1} → statement M
 apply-spec =
     tie.close
     (tie.spec
-    touched-set-requires (λ c κs. search needs) (λ c κs. search needs) (λ c. search needs) (λ c. search needs)
+    link-cost-requires touched-set-requires (λ c κs. search needs) (λ c κs. search needs) (λ c. search needs) (λ c. search needs)
     (λ c. search needs) (λ c. search needs) returns sum-scores-requires (λ c. search needs) (λ c. search needs)
     (λ c. search needs) (λ c. search needs) (λ c. search needs) returns-2)

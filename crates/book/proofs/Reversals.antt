@@ -1,0 +1,118 @@
+-- An accepted edit is taken back by its reversal, the edit that its kind, its stops and its answer give. Assumes nothing.
+use Prim.Native.Nat.{ℕ, _+_, _*_, _<_, _≤_}
+use mathlib.Core.Path.{_≡_, refl, sym, _∙_, ap}
+use mathlib.Core.Bool.{Bool, true, cond, or-comm}
+use mathlib.Core.List.{List}
+use native.Mathlib.Omega.{arith}
+use lib.Dec.{eqb, ltb}
+use lib.Seq.{set-set, set-getD}
+use borrow.Author.Tests.{eqb-true, eq-eqb, ltb-true, lt-ltb, le-leb}
+use Rattle.routes.specs.Route.{sumTo, setOf, used}
+use Rattle.book.specs.Hall.{Tables, largestCost, mostWays, scale, upTo, entry, filled, validPair, right, touched}
+use Rattle.book.specs.Call.{Call, edit, accepted, otherCostTests, costTests, waysTest, costSet, withEdit, rule, refusal, after, answer, reverseKind, reversal}
+use Rattle.book.specs.Book.{TakesBack}
+use Rattle.book.specs.declared.Edit.{Edit}
+use Rattle.book.specs.declared.Kind.{Kind}
+use Rattle.book.specs.declared.Kind.the-variants.{Insert, Cheapen, Raise, Delete}
+use Rattle.book.specs.declared.Refusal.{Refusal}
+use Rattle.book.specs.declared.Refusal.the-variants.{Accepted, BadStop, BadCost, LinkPresent, LinkAbsent}
+use Rattle.book.proofs.Tables.{valid-costs}
+use Rattle.book.proofs.Filled.{sized-filled, right-filled, right-true}
+use Rattle.book.proofs.Passed.{need-true, passed, audited, up-to, other-cost-tests, Permitted, permitted}
+use Rattle.book.proofs.Steps.{Held, held-right, entry-edited, held-edited, accepted-filled}
+use Rattle.book.proofs.Calls.{edit-taken}
+
+-- from 1 to the largest cost
+cost-fits : (x : ℕ) → 0 < x → x ≤ largestCost → upTo largestCost x ≡ true
+cost-fits x some most = rw (le-leb 1 x some, le-leb x largestCost most)
+
+-- a cost that was accepted in place of another one: the other one, which lies on the other side of it, is accepted in its place
+other-cost-back : (wanted : Bool) (c present : ℕ) (next : Refusal) → present ≤ largestCost → accepted (otherCostTests wanted c present next) ≡ true →
+    otherCostTests wanted present c Accepted ≡ Accepted
+other-cost-back wanted c present next most e =
+    let (some, fits, there, on, rest) = other-cost-tests wanted c present next e in
+    rw (cost-fits present there most, lt-ltb 0 c some, on)
+
+-- the same for each kind: the reversal passes 5 to 8, and sets the cost before
+cost-back : (k : Kind) (c present : ℕ) (next : Refusal) → present ≤ largestCost → accepted (costTests k c present next) ≡ true →
+    (costTests (reverseKind k) present (costSet k c) Accepted ≡ Accepted) × (costSet (reverseKind k) present ≡ present)
+cost-back Insert c present next most e =
+    let (bounds, e₁) = need-true (upTo largestCost c) BadCost _ refl e in
+    let (absent, e₂) = need-true (eqb present 0) LinkPresent next refl e₁ in
+    (rw (lt-ltb 0 c (up-to largestCost c bounds .0)), sym (eqb-true present 0 absent))
+cost-back Cheapen c present next most e = (other-cost-back (ltb c present) c present next most e, refl)
+cost-back Raise c present next most e = (other-cost-back (ltb present c) c present next most e, refl)
+cost-back Delete c present next most e =
+    let (there, e₁) = need-true (ltb 0 present) LinkAbsent next refl e in
+    (rw (cost-fits present (ltb-true 0 present there) most), refl)
+
+-- an edit that passes its tests, over the costs of a hall
+module _ (n : ℕ) (e : Edit) (cost : List ℕ) (h : Held n cost) (ok : accepted (rule n (edit e) cost .tests) ≡ true) where
+  abbrev u : ℕ
+  u = e .u
+
+  abbrev v : ℕ
+  v = e .v
+
+  abbrev left : List ℕ
+  left = withEdit n e cost
+
+  abbrev back : Edit
+  back = reversal (e .kind) u v (rule n (edit e) cost .says)
+
+  abbrev call : Call
+  call = record { n = n; ask = edit back }
+
+  p : Permitted n e cost
+  p = permitted n e cost ok
+
+  set-now : entry n left u v ≡ costSet (e .kind) (e .cost)
+  set-now = entry-edited n e cost h p u v (p .to) ∙ rw (eq-eqb u u refl, eq-eqb v v refl)
+
+  pair : validPair n u v ≡ true
+  unfolding rule
+  pair = need-true (validPair n u v) BadStop _ refl ok .0
+
+  costs : (costTests (reverseKind (e .kind)) (entry n cost u v) (costSet (e .kind) (e .cost)) Accepted ≡ Accepted) ×
+      (costSet (reverseKind (e .kind)) (entry n cost u v) ≡ entry n cost u v)
+  unfolding rule
+  costs =
+      let most = valid-costs n cost (h .valid) .most u v (p .from) (p .to) in
+      cost-back (e .kind) (e .cost) (entry n cost u v) (waysTest n left) most (need-true (validPair n u v) BadStop _ refl ok .1)
+
+  -- the cost before at its place again
+  back-costs : withEdit n back left ≡ cost
+  unfolding rule
+  back-costs = set-set cost (u * n + v) _ _ ∙ rw (costs .1) (set-getD cost (u * n + v) 0)
+
+  back-taken : refusal call (filled scale n left) ≡ Accepted
+  unfolding rule filled
+  back-taken =
+      let h′ = held-edited n e cost h p in
+      edit-taken n back (filled scale n left) (h .size) (sized-filled scale n n left (h′ .square) ∙ eq-eqb n n refl)
+      (right-filled scale mostWays n left (h′ .valid) (h′ .few)) pair (rw set-now (costs .0)) (rw back-costs (h .few))
+
+  -- touched is touched, whichever of the two halls comes first
+  turned : touched n left cost u v ≡ touched n cost left u v
+  unfolding touched
+  turned = λ i s. or-comm (used (entry n left) n s u v) (used (entry n cost) n s u v) i
+
+  pub rule-reversed : TakesBack call (filled scale n cost) (filled scale n left) (rule n (edit e) cost .says)
+  unfolding answer rule filled
+  rule-reversed = record {
+    taken = back-taken;
+    gives = accepted-filled call (filled scale n left) back-taken ∙ ap (filled scale n) back-costs;
+    touches = rw (back-taken, back-costs, turned) (refl, refl);
+  }
+
+-- on right tables, which an accepted edit has met: made directly after it, the reversal takes it back
+pub edit-reversed : (n : ℕ) (e : Edit) (t : Tables) →
+    let c : Call = record { n = n; ask = edit e } in
+    refusal c t ≡ Accepted → TakesBack (record { n = n; ask = edit (reversal (e .kind) (e .u) (e .v) (answer c t)) }) t (after c t) (answer c t)
+unfolding after answer rule
+edit-reversed n e t ok =
+    let c : Call = record { n = n; ask = edit e } in
+    let (size, lengths, tests) = passed c t ok in
+    let sound : right scale mostWays n t ≡ true = audited c t ok in
+    let same = right-true scale mostWays n t sound .2 in
+    rw ok (rw same at (rule-reversed n e (t .cost) (held-right n t size lengths sound) tests))
