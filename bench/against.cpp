@@ -1,25 +1,27 @@
-// Work out, audit and edit of an older library beside those of this one, in one process and on the same halls. The older one's
-// functions have `old_` before their names. Times are the least of many runs, taken in turn; for each hall a line with the times
-// of both, and whether the tables agree.
+// Work out, audit and edit of an older library beside those of this one, in one process and on the same halls, by the functions of
+// calls.c with `old_` and `new_` before their names. Times are the least of many runs, taken in turn; for each hall a line with the
+// times of both, and whether the tables agree.
 #include "halls.h"
 
+using Whole = uint32_t(hall_tables);
+using Insert = uint32_t(hall_tables, uint64_t from, uint64_t to, uint64_t c);
+using Delete = uint32_t(hall_tables, uint64_t from, uint64_t to);
+
 extern "C" {
-decltype(hall_work_out) old_hall_work_out;
-decltype(hall_audit) old_hall_audit;
-decltype(hall_insert) old_hall_insert;
-decltype(hall_delete) old_hall_delete;
+Whole old_call_work_out, old_call_audit, new_call_work_out, new_call_audit;
+Insert old_call_insert, new_call_insert;
+Delete old_call_delete, new_call_delete;
 }
 
 // One library's calls.
 struct Calls {
-    decltype(&hall_work_out) work_out;
-    decltype(&hall_audit) audit;
-    decltype(&hall_insert) insert;
-    decltype(&hall_delete) remove;
+    Whole *work_out, *audit;
+    Insert *insert;
+    Delete *remove;
 };
 
-static const Calls OLD = {old_hall_work_out, old_hall_audit, old_hall_insert, old_hall_delete};
-static const Calls NEW = {hall_work_out, hall_audit, hall_insert, hall_delete};
+static const Calls OLD = {old_call_work_out, old_call_audit, old_call_insert, old_call_delete};
+static const Calls NEW = {new_call_work_out, new_call_audit, new_call_insert, new_call_delete};
 
 struct Times {
     double work_out = 1e300, audit = 1e300, edits = 0;
@@ -27,19 +29,19 @@ struct Times {
 
 static void whole(const Calls &calls, Hall &h, Times &best) {
     hall_tables t = h.tables();
-    best.work_out = std::min(best.work_out, least_time(20, [&] { calls.work_out(h.n, HALL_TABLES(t)); }));
-    best.audit = std::min(best.audit, least_time(20, [&] { calls.audit(h.n, HALL_TABLES(t)); }));
+    best.work_out = std::min(best.work_out, least_time(20, [&] { calls.work_out(t); }));
+    best.audit = std::min(best.audit, least_time(20, [&] { calls.audit(t); }));
 }
 
 // The delete of a link and its insert again: keeps their least time so far, and says whether both were accepted.
 static bool edit(const Calls &calls, Hall &h, const Link &l, double &least) {
     hall_tables t = h.tables();
-    hall_edited out = {}, in = {};
+    uint32_t out = 0, in = 0;
     least = std::min(least, time_of([&] {
-                         out = calls.remove(h.n, l.from, l.to, HALL_TABLES(t));
-                         in = calls.insert(h.n, l.from, l.to, l.cost, HALL_TABLES(t));
+                         out = calls.remove(t, l.from, l.to);
+                         in = calls.insert(t, l.from, l.to, l.cost);
                      }));
-    return out.refusal == HALL_ACCEPTED && in.refusal == HALL_ACCEPTED;
+    return out == HALL_ACCEPTED && in == HALL_ACCEPTED;
 }
 
 // The mean time of an edit of these links, each with its least time of twenty; says whether all were accepted.
@@ -56,8 +58,7 @@ static bool edits(Hall &h, const std::vector<Link> &links, Times &old, Times &no
 
 static int measure(const std::string &name, Hall h, std::mt19937 &random) {
     Hall other = h;
-    hall_tables t = other.tables();
-    if (h.work_out() != HALL_ACCEPTED || old_hall_work_out(other.n, HALL_TABLES(t)) != HALL_ACCEPTED) return 1;
+    if (NEW.work_out(h.tables()) != HALL_ACCEPTED || OLD.work_out(other.tables()) != HALL_ACCEPTED) return 1;
     Times old, now;
     for (int round = 0; round < 50; round++) {
         whole(OLD, h, old);

@@ -1,13 +1,12 @@
 -- An accepted edit is taken back by its reversal, the edit that its kind, its stops and its answer give. Assumes nothing.
 use Prim.Native.Nat.{ℕ, _+_, _*_, _<_, _≤_}
 use mathlib.Core.Path.{_≡_, refl, sym, _∙_, ap}
-use mathlib.Core.Bool.{Bool, true, cond, or-comm}
+use mathlib.Core.Bool.{Bool, true, or-comm}
 use mathlib.Core.List.{List}
-use native.Mathlib.Omega.{arith}
 use lib.Dec.{eqb, ltb}
 use lib.Seq.{set-set, set-getD}
 use borrow.Author.Tests.{eqb-true, eq-eqb, ltb-true, lt-ltb, le-leb}
-use Rattle.routes.specs.Route.{sumTo, setOf, used}
+use Rattle.routes.specs.Route.{used}
 use Rattle.book.specs.Hall.{Tables, largestCost, mostWays, scale, upTo, entry, filled, validPair, right, touched}
 use Rattle.book.specs.Call.{Call, edit, accepted, otherCostTests, costTests, waysTest, costSet, withEdit, rule, refusal, after, answer, reverseKind, reversal}
 use Rattle.book.specs.Book.{TakesBack}
