@@ -54,15 +54,18 @@ static void free_tables(hall_tables t)
     free(t.share);
 }
 
-/* The blocks of one hall over those of another with as many stops, and whether they are the same. */
+/* Tables of make_tables lie in two blocks, from cost and from share on, of so many bytes. */
 static size_t narrow_bytes(hall_tables t) { return 3 * t.n * t.n * sizeof *t.cost; }
 
 static size_t wide_bytes(hall_tables t) { return (t.n * t.n + t.n) * sizeof *t.share; }
 
-static void copy_tables(hall_tables to, hall_tables from)
+static hall_tables copy_of(hall_tables from)
 {
+    hall_tables to = make_tables(from.n);
+
     memcpy(to.cost, from.cost, narrow_bytes(from));
     memcpy(to.share, from.share, wide_bytes(from));
+    return to;
 }
 
 static int same_tables(hall_tables a, hall_tables b)
@@ -116,7 +119,7 @@ static void print_scores(const hall_tables *t)
 static void print_edit(const char *what, hall_edited e)
 {
     printf("%s: %" PRIu32 " %s, %" PRIu32 " rows touched, set %#" PRIx64 ", cost before %" PRIu32 "\n", what, e.refusal, words(e.refusal),
-           e.rows, e.touched, e.cost_before);
+           e.rows, e.touched, e.before);
 }
 
 static void print_call(const char *what, uint32_t refusal)
@@ -132,24 +135,55 @@ static void worn_belt(const hall_tables *hall)
     print_scores(hall);
 }
 
-/* What a belt from 3 to 0 would change: it is put in, looked at, and taken out again, and the belt from 2 to 3 is run faster and
- * then, by what that edit answered, as it ran before. Says whether all five tables are those of before. */
-static int taken_back(const hall_tables *hall)
+typedef enum { INSERT, CHEAPEN, RAISE, DELETE } edit_kind;
+
+/* The edit that takes an accepted one back, from its kind, its stops and its answer. */
+static hall_edited take_back(const hall_tables *t, edit_kind kind, uint64_t from, uint64_t to, hall_edited e)
 {
-    hall_tables before = make_tables(hall->n);
-    hall_edited faster;
+    switch (kind) {
+    case INSERT: return delete_link(t, from, to);
+    case CHEAPEN: return raise_cost(t, from, to, e.before);
+    case RAISE: return cheapen(t, from, to, e.before);
+    case DELETE: break;
+    }
+    return insert(t, from, to, e.before);
+}
+
+/* What if the belt from 2 to 3 closed, and what if one ran from 3 to 0? Each edit is looked at and taken back. Says whether all five
+ * tables are then those of before. */
+static int looked_at(const hall_tables *hall)
+{
+    hall_tables before = copy_of(*hall);
+    hall_edited e = delete_link(hall, 2, 3);
     int same;
 
-    copy_tables(before, *hall);
-    print_edit("insert 3 0 5", insert(hall, 3, 0, 5));
+    print_edit("delete 2 3", e);
     print_scores(hall);
-    print_edit("delete 3 0", delete_link(hall, 3, 0));
-    faster = cheapen(hall, 2, 3, 1);
-    print_edit("cheapen 2 3 1", faster);
-    print_edit("raise 2 3 to the cost before", raise_cost(hall, 2, 3, faster.cost_before));
+    print_edit("taken back", take_back(hall, DELETE, 2, 3, e));
+    e = insert(hall, 3, 0, 5);
+    print_edit("insert 3 0 5", e);
+    print_scores(hall);
+    print_edit("taken back", take_back(hall, INSERT, 3, 0, e));
     same = same_tables(before, *hall);
-    printf("taken back: %s\n", same ? "same tables" : "OTHER TABLES");
+    printf("after that: %s\n", same ? "same tables" : "OTHER TABLES");
     free_tables(before);
+    return same;
+}
+
+/* Writes the hall as an image and reads it back over the tables of another. Says whether they are the same then. */
+static int kept_as_image(const hall_tables *hall, const hall_tables *copy)
+{
+    uint8_t image[HALL_LONGEST_IMAGE];
+    hall_written w = image_write(hall, image, sizeof image);
+    int same;
+
+    printf("image write: %" PRIu32 " %s, %" PRIu64 " bytes\n", w.refusal, words(w.refusal), w.length);
+    /* The image check takes n last. */
+    print_call("image check", hall_image_check(image, w.length, hall->n));
+    print_call("image check, 5 stops", hall_image_check(image, w.length, 5));
+    print_call("image read", image_read(copy, image, w.length));
+    same = same_tables(*hall, *copy);
+    printf("read back: %s\n", same ? "same tables" : "OTHER TABLES");
     return same;
 }
 
@@ -158,8 +192,6 @@ static int taken_back(const hall_tables *hall)
 static int small_hall(void)
 {
     hall_tables hall = make_tables(4), copy = make_tables(4);
-    uint8_t image[HALL_LONGEST_IMAGE];
-    hall_written w;
     uint32_t refusal;
     int same, back;
 
@@ -175,23 +207,13 @@ static int small_hall(void)
     print_edit("cheapen 2 3 4", cheapen(&hall, 2, 3, 4));
     print_scores(&hall);
 
-    /* The image check takes n last. */
-    w = image_write(&hall, image, sizeof image);
-    printf("image write: %" PRIu32 " %s, %" PRIu64 " bytes\n", w.refusal, words(w.refusal), w.length);
-    print_call("image check", hall_image_check(image, w.length, hall.n));
-    print_call("image check, 5 stops", hall_image_check(image, w.length, 5));
-    print_call("image read", image_read(&copy, image, w.length));
-    same = memcmp(hall.score, copy.score, 4 * sizeof *hall.score) == 0;
-    printf("read back: %s\n", same ? "same scores" : "OTHER SCORES");
-
+    same = kept_as_image(&hall, &copy);
     worn_belt(&hall);
-    back = taken_back(&hall);
+    back = looked_at(&hall);
 
     /* A stray write is found by the call itself. */
     copy.ways[3] += 1;
     print_edit("delete 2 3, damaged", delete_link(&copy, 2, 3));
-    print_edit("delete 2 3", delete_link(&hall, 2, 3));
-    print_scores(&hall);
     refusal = audit(&hall);
     print_call("audit", refusal);
     free_tables(hall);

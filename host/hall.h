@@ -28,7 +28,8 @@
  * dynamic linker at the first call among others.
  *
  * The library is proved; that this header fits it is not. `make -C host check`
- * tries it.
+ * tries it. The two go together: compile a host anew for another release of
+ * the library, whose answers may have grown.
  *
  *
  * MEMORY
@@ -144,23 +145,25 @@ typedef enum {
 /* An edit's answer: its refusal, the number of touched sources (those from
  * which a quickest route, before or after, uses the edited link), their set,
  * bit s for source s, and what the link cost before the edit, 0 where there
- * was none. Refused: 0 rows, an empty set and a cost before of 0. Behind the
+ * was none. Refused: 0 rows, an empty set and 0 as the cost before. Behind the
  * last field lie 4 bytes of padding with unspecified content: compare the
  * fields, not the bytes.
  *
- * An accepted edit is taken back from its answer by the next call on the
- * tables, which is then never refused, touches the same sources and leaves all
- * five tables as they were before the edit:
+ * To take an accepted edit back, call on the tables that it left, with the
+ * same n and the same stops:
  *
- *   hall_insert    by hall_delete
- *   hall_cheapen   by hall_raise to cost_before
- *   hall_raise     by hall_cheapen to cost_before
- *   hall_delete    by hall_insert at cost_before */
+ *   after hall_insert    hall_delete
+ *   after hall_cheapen   hall_raise, with `before` as the cost
+ *   after hall_raise     hall_cheapen, with `before` as the cost
+ *   after hall_delete    hall_insert, with `before` as the cost
+ *
+ * Such a call is never refused, not even with 11. It touches the same sources
+ * and leaves all five tables as they were before the edit. */
 typedef struct {
     uint32_t refusal;
     uint32_t rows;
     uint64_t touched;
-    uint32_t cost_before;
+    uint32_t before;
 } hall_edited;
 
 /* An image write's answer: its refusal, and the length of the image, 0 if

@@ -13,7 +13,7 @@ _Static_assert(sizeof HALL_LARGEST_COST == sizeof(uint32_t), "as wide as an entr
 
 /* An edit's answer in memory, an image write's in two registers, as the archive returns them. */
 _Static_assert(sizeof(hall_edited) == 24 && offsetof(hall_edited, rows) == 4, "layout, with 4 bytes of padding");
-_Static_assert(offsetof(hall_edited, touched) == 8 && offsetof(hall_edited, cost_before) == 16, "layout");
+_Static_assert(offsetof(hall_edited, touched) == 8 && offsetof(hall_edited, before) == 16, "layout");
 _Static_assert(sizeof(hall_written) == 16 && offsetof(hall_written, length) == 8, "layout, with 4 bytes of padding");
 
 static int wrong;
@@ -72,7 +72,7 @@ static void names_fit(void)
     HOLDS(hall_empty(3, HALL_TABLES(other)) == HALL_BAD_LENGTH);
     HOLDS(hall_empty(3, HALL_TABLES(t)) == HALL_ACCEPTED);
     e = hall_insert(3, 2, 1, 7, HALL_TABLES(t));
-    HOLDS(e.refusal == HALL_ACCEPTED && e.rows == 1 && e.touched == 4 && e.cost_before == 0 && cost[2 * 3 + 1] == 7);
+    HOLDS(e.refusal == HALL_ACCEPTED && e.rows == 1 && e.touched == 4 && e.before == 0 && cost[2 * 3 + 1] == 7);
     HOLDS(hall_insert(3, 2, 3, 7, HALL_TABLES(t)).refusal == HALL_BAD_STOP);
     HOLDS(hall_insert(3, 0, 1, HALL_LARGEST_COST + 1, HALL_TABLES(t)).refusal == HALL_BAD_COST);
     HOLDS(hall_insert(3, 2, 1, 7, HALL_TABLES(t)).refusal == HALL_LINK_PRESENT);
@@ -82,10 +82,10 @@ static void names_fit(void)
     HOLDS(hall_raise(3, 1, 2, 8, HALL_TABLES(t)).refusal == HALL_LINK_ABSENT);
     HOLDS(time[2 * 3 + 1] == 7 && time[1 * 3 + 2] == HALL_MARK);
     e = hall_raise(3, 2, 1, 8, HALL_TABLES(t));
-    HOLDS(e.refusal == HALL_ACCEPTED && e.rows == 1 && e.touched == 4 && e.cost_before == 7);
+    HOLDS(e.refusal == HALL_ACCEPTED && e.rows == 1 && e.touched == 4 && e.before == 7);
     HOLDS(cost[2 * 3 + 1] == 8 && time[2 * 3 + 1] == 8);
     e = hall_cheapen(3, 2, 1, 8, HALL_TABLES(t));
-    HOLDS(e.refusal == HALL_COST_WRONG_SIDE && e.rows == 0 && e.touched == 0 && e.cost_before == 0);
+    HOLDS(e.refusal == HALL_COST_WRONG_SIDE && e.rows == 0 && e.touched == 0 && e.before == 0);
     HOLDS(hall_image_write(3, HALL_TABLES(t), buffer, 11).refusal == HALL_SHORT_BUFFER);
     HOLDS(hall_image_write(3, HALL_TABLES(t), buffer, 12).length == 12);
     HOLDS(hall_image_check(buffer, 12, 3) == HALL_ACCEPTED);
@@ -116,7 +116,7 @@ static void most_ways(void)
     cost[1] = 9;
     HOLDS(hall_work_out(t.n, HALL_TABLES(t)) == HALL_ACCEPTED);
     e = hall_delete(t.n, 0, 1, HALL_TABLES(t));
-    HOLDS(e.refusal == HALL_TOO_MANY_WAYS && e.rows == 0 && e.touched == 0 && e.cost_before == 0);
+    HOLDS(e.refusal == HALL_TOO_MANY_WAYS && e.rows == 0 && e.touched == 0 && e.before == 0);
     HOLDS(hall_audit(t.n, HALL_TABLES(t)) == HALL_ACCEPTED);
 }
 
@@ -163,7 +163,10 @@ static int as_kept(void)
            !memcmp(old_share, share, sizeof share) && !memcmp(old_score, score, sizeof score);
 }
 
-/* An edit of each kind changes the tables of 25 stops with 21 ways and is taken back from its answer. */
+static int same_sources(hall_edited a, hall_edited b) { return a.touched == b.touched && a.rows == b.rows; }
+
+/* 21 ways from 0 to 1 over a stop each, of which the one over 3 is quickest: an edit of each kind changes the tables, and is taken
+ * back from its answer. */
 static void taken_back(void)
 {
     hall_tables t = tables_of(25);
@@ -176,21 +179,21 @@ static void taken_back(void)
     HOLDS(hall_work_out(t.n, HALL_TABLES(t)) == HALL_ACCEPTED && ways[1] == 1);
     keep();
     e = hall_insert(t.n, 0, 1, 8, HALL_TABLES(t));
-    HOLDS(e.refusal == HALL_ACCEPTED && e.cost_before == 0 && !as_kept());
+    HOLDS(e.refusal == HALL_ACCEPTED && e.before == 0 && !as_kept());
     back = hall_delete(t.n, 0, 1, HALL_TABLES(t));
-    HOLDS(back.refusal == HALL_ACCEPTED && back.touched == e.touched && back.cost_before == 8 && as_kept());
+    HOLDS(back.refusal == HALL_ACCEPTED && same_sources(back, e) && back.before == 8 && as_kept());
     e = hall_raise(t.n, 0, 3, HALL_LARGEST_COST, HALL_TABLES(t));
-    HOLDS(e.refusal == HALL_ACCEPTED && e.cost_before == 4 && ways[1] == HALL_WAYS - 2 && !as_kept());
-    back = hall_cheapen(t.n, 0, 3, e.cost_before, HALL_TABLES(t));
-    HOLDS(back.refusal == HALL_ACCEPTED && back.touched == e.touched && back.cost_before == HALL_LARGEST_COST && as_kept());
+    HOLDS(e.refusal == HALL_ACCEPTED && e.before == 4 && ways[1] == HALL_WAYS - 2 && !as_kept());
+    back = hall_cheapen(t.n, 0, 3, e.before, HALL_TABLES(t));
+    HOLDS(back.refusal == HALL_ACCEPTED && same_sources(back, e) && back.before == HALL_LARGEST_COST && as_kept());
     e = hall_cheapen(t.n, 0, 4, 4, HALL_TABLES(t));
-    HOLDS(e.refusal == HALL_ACCEPTED && e.cost_before == 5 && ways[1] == 2 && !as_kept());
-    back = hall_raise(t.n, 0, 4, e.cost_before, HALL_TABLES(t));
-    HOLDS(back.refusal == HALL_ACCEPTED && back.touched == e.touched && back.cost_before == 4 && as_kept());
+    HOLDS(e.refusal == HALL_ACCEPTED && e.before == 5 && ways[1] == 2 && !as_kept());
+    back = hall_raise(t.n, 0, 4, e.before, HALL_TABLES(t));
+    HOLDS(back.refusal == HALL_ACCEPTED && same_sources(back, e) && back.before == 4 && as_kept());
     e = hall_delete(t.n, 3, 1, HALL_TABLES(t));
-    HOLDS(e.refusal == HALL_ACCEPTED && e.cost_before == 5 && !as_kept());
-    back = hall_insert(t.n, 3, 1, e.cost_before, HALL_TABLES(t));
-    HOLDS(back.refusal == HALL_ACCEPTED && back.touched == e.touched && back.cost_before == 0 && as_kept());
+    HOLDS(e.refusal == HALL_ACCEPTED && e.before == 5 && !as_kept());
+    back = hall_insert(t.n, 3, 1, e.before, HALL_TABLES(t));
+    HOLDS(back.refusal == HALL_ACCEPTED && same_sources(back, e) && back.before == 0 && as_kept());
 }
 
 /* All links of the largest hall make the longest image. */

@@ -8,7 +8,7 @@ use lib.ListN.{replicate, take, drop}
 use lib.Dec.{eqb}
 use Rattle.routes.specs.Route.{mark, sumTo, joinTo, listTo, allTo, same, setOf, count, visits, uses, time, least, extend, hops, routes, leastTime, quickest, ways, through, portion, share, used, score}
 use Rattle.book.specs.Hall.{Tables, scale, filled, sized, validCosts, uncrowded, right, touched, lowFirst, field, imageOf, validRecord, isImage, costsOf}
-use Rattle.book.specs.Call.{Call, Ask, emptyHall, audit, workOut, imageWrite, imageRead, number, accepted, rule, Answer, refusal, after, answer, imageCheck}
+use Rattle.book.specs.Call.{Call, Ask, emptyHall, audit, workOut, imageWrite, imageRead, number, rule, Answer, refusal, after, answer, imageCheck}
 use Rattle.book.specs.Book.{noLinks, run, bookRefusal, bookAfter, bookAnswer, bookAnswers}
 use Rattle.book.proofs.Refused.{bufferOf}
 use Rattle.book.proofs.Cases.{change}

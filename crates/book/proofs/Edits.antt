@@ -42,7 +42,10 @@ sumTo-move n p f g stay =
     other i true h = refl
     other i false h = h refl
 
-module _ (n : ℕ) (e : Edit) (cost : List ℕ) (h : Held n cost) (p : Permitted n e cost) where
+module _ (n : ℕ) (e : Edit) (cost : List ℕ) (h : Held n cost) (ok : accepted (rule n (edit e) cost .tests) ≡ true) where
+  p : Permitted n e cost
+  p = permitted n e cost ok
+
   abbrev u : ℕ
   u = e .u
 
@@ -115,9 +118,9 @@ module _ (n : ℕ) (e : Edit) (cost : List ℕ) (h : Held n cost) (p : Permitted
   over-touched f x hx = sumTo-cong n (λ s hs. rw (member s hs, entry-table n f s x hs hx))
 
   -- the promises of demand 3 for this edit
-  edited-rule : accepted (rule n (edit e) cost .tests) ≡ true → EditFacts n e (filled scale n cost) (filled scale n left) (rule n (edit e) cost .says)
+  edited-rule : EditFacts n e (filled scale n cost) (filled scale n left) (rule n (edit e) cost .says)
   unfolding filled rule score
-  edited-rule ok =
+  edited-rule =
       let shares : ℕ → ℕ → ℕ = λ s. share W n s scale in
       let shares′ : ℕ → ℕ → ℕ = λ s. share W′ n s scale in
       record {
@@ -137,5 +140,4 @@ pub edited-book : (c : Call) (b : Book) (e : Edit) → Held (b .stops) (b .links
 unfolding after answer filled rule
 edited-book c b e h asked ok =
     let (same, fits, tests) = accepted-book c b (ap accepted (sym (refusal-book c b h) ∙ ok)) in
-    let passed = (rw asked at tests) in
-    rw (ok, asked, ← same) (edited-rule (c .n) e (b .links) (rw same h) (permitted (c .n) e (b .links) passed) passed)
+    rw (ok, asked, ← same) (edited-rule (c .n) e (b .links) (rw same h) (rw asked at tests))

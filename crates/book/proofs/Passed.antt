@@ -57,7 +57,7 @@ pub record Permitted (n : ℕ) (e : Edit) (cost : List ℕ) : Type 0 where
   pub differs : entry n cost (e .u) (e .v) ≢ costSet (e .kind) (e .cost)
   pub few : uncrowded mostWays n (withEdit n e cost) ≡ true
 
--- a cost from 1 to the largest
+-- a number from 1 to m
 pub up-to : (m x : ℕ) → upTo m x ≡ true → (0 < x) × (x ≤ m)
 up-to m x e = let (low, high) = and-eq-true-iff (leb 1 x) (leb x m) .0 e in (leb-true 1 x low, leb-true x m high)
 

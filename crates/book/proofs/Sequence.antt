@@ -45,7 +45,7 @@ front : (made : List Step) (s : Step) (rest : List Step) (t : Tables) → Sequen
     Sequence t made × Done (s .call) (lent (s .call) (run kept made t)) (s .left) (s .answer) × Sequence (kept s (run kept made t)) rest
 unfolding run Sequence
 front [] s rest t (d, more) = (tt, d, more)
-front (m ∷ made) s rest t (d, more) = let (q, e, rest) = front made s rest (kept m t) more in ((d, q), e, rest)
+front (m ∷ made) s rest t (d, more) = let (part, e, behind) = front made s rest (kept m t) more in ((d, part), e, behind)
 
 -- an accepted edit on the tables of a book has the facts that demand 3 wants
 edited-made : (s : Step) (b : Book) (e : Edit) → Held (b .stops) (b .links) → s .call .ask ≡ edit e →

@@ -1,5 +1,5 @@
--- The calls of document 01: one rule says what each is lent, looks at, leaves and says; by it the refusal, the tables after the call
--- and the answer on any tables; and what a contract promises. Assumes nothing.
+-- The calls of document 01, with what the requests of document 02 add: one rule says what each is lent, looks at, leaves and says; by
+-- it the refusal, the tables after the call and the answer on any tables; and what a contract promises. Assumes nothing.
 use Prim.Native.Nat.{ℕ, _+_, _*_}
 use mathlib.Core.Path.{_≡_}
 use mathlib.Core.Bool.{Bool, true, cond, _&&_}

@@ -36,7 +36,7 @@ pub struct Edit {
 }
 
 // The answer of an edit: the set of touched sources, bit s for source s, their number, and what the link cost before, 0
-// where there was none.
+// where there was none or the edit was refused.
 pub struct EditAnswer {
     pub refusal: Refusal,
     pub touched: u64,

@@ -40,14 +40,15 @@ pub fn sum(a: u64, b: u64, c: u64, d: u64, e: u64) -> u64 {
 }
 
 // The numbers of two answers.
-pub fn answers(a: Answer, b: Answer) -> u64 {
-    sum(
-        unlike(a.refusal, b.refusal),
-        unlike(a.touched, b.touched),
-        unlike(a.rows, b.rows),
-        unlike(a.before, b.before),
-        unlike(a.length, b.length),
-    )
+pub fn answers(a: Answer, b: Answer) -> u64
+    ensures { λ r. ⌜ (r ≡ 0 → (a .refusal ≡ b .refusal) × (a .touched ≡ b .touched) × (a .rows ≡ b .rows) × (a .before ≡ b .before) × (a .length ≡ b .length)) ⌝ }
+{
+    let refusals = unlike(a.refusal, b.refusal);
+    let sets = unlike(a.touched, b.touched);
+    let rows = unlike(a.rows, b.rows);
+    let costs = unlike(a.before, b.before);
+    let lengths = unlike(a.length, b.length);
+    refusals + sets + rows + costs + lengths
 }
 
 // Five tables against five others, with all their room.

@@ -1,4 +1,4 @@
--- Document 01's example of hallscore, one with raises, and lines at the edge of its rules, computed. Assumes nothing.
+-- Document 01's example of hallscore with the costs before, one with raises, and lines at the edge of its rules, computed. Assumes nothing.
 use Prim.Native.Nat.{ℕ}
 use Prim.Native.String.{String}
 use mathlib.Core.Path.{_≡_, refl}
@@ -14,7 +14,7 @@ use Rattle.words.specs.declared.Line.{Line}
 use Rattle.words.specs.declared.Line.the-variants.{Read, Unread}
 use Rattle.words.specs.Text.{bytes, before, parts, words, digits, valueFrom, numberOf, hallOf, kindIn, editOf, lineOf, decimalTo, said, next, report, ofLines, listing}
 
--- document 01's input and output
+-- document 01's input and output, each edit's line with the cost before as document 02 wants it
 pub example :
     listing (bytes "hall 4\ninsert 0 1 5\ninsert 0 2 5\ninsert 1 3 5\ninsert 2 3 5\ncheapen 2 3 5\n") ≡
     bytes "hall 4 scale 232792560\n2 0 1 0\n3 0 1 0\n4 0 2 0\n5 0 2 0\n6 8 0 0\nstop 0 score 0\nstop 1 score 116396280\nstop 2 score 116396280\nstop 3 score 0\n"

@@ -12,8 +12,8 @@ use Rattle.words.specs.declared.Line.{Line}
 use Rattle.print.specs.Promise.{hallBytes, lineBytes, Printed}
 use Rattle.listing.specs.declared.Listed.{Listed}
 
--- room for the listing of any text. A text has at most 32,768 bytes, and a line prints at most 13 for each of its own, its line feed
--- among them, which the last line may lack: an empty line is unread, and an edit's 17 come from at least ten bytes. With the first line
+-- room for the listing of any text. A text has at most 32,768 bytes. For each byte of a line, its line feed among them, which the last
+-- line may lack, at most 13 bytes are printed: an empty line is unread, and the 17 of an edit come from ten or more. With the first line
 -- and 64 scores: 24 + 32,769 × 13 + 64 × 35 = 428,261 bytes, rounded up
 abbrev pub room : ℕ
 room = 430000

@@ -1,4 +1,5 @@
--- hallscore, whole (document 01): the listing that it prints, for any text. A text is the list of its bytes. Assumes nothing.
+-- hallscore, whole (document 01, with requests 1 and 3 of document 02): the listing that it prints, for any text. A text is the list of
+-- its bytes. Assumes nothing.
 use Prim.Native.Nat.{ℕ, zero, suc, _+_, _*_, _-_, _/_, _%_}
 use Prim.Native.Char.{code}
 use Prim.Native.String.{String, [] as end, _∷_ as _then_}

@@ -1,6 +1,5 @@
 -- `touched_set` compares with the present cost of the link. Assumes nothing.
 use mathlib.Core.Path.{_∙_}
-use native.Mathlib.Omega.{arith}
 use borrow.Author.Needs.{needs}
 use Rattle.touch.proofs.touched_set.Statement.{statement}
 use Rattle.touch.proofs.touched_set.Tie as tie
@@ -13,12 +12,11 @@ touched-sources-requires c κs =
 
 returns : tie.Need-returns
 returns c =
-    let dearer : tie.After-dearer = search in let start : tie.After-start = search in
-    record { found = c .touched-sources .ensures ∙ rw (dearer .dearer .ensures, start .start .ensures .place) }
+    let dearer : tie.After-dearer = search in let link-cost : tie.After-link-cost = search in
+    record { found = c .touched-sources .ensures ∙ rw (dearer .dearer .ensures, link-cost .link-cost .ensures) }
 
 pub touched-set-spec : {M : Type 1} → statement M
 touched-set-spec =
     tie.close
     (tie.spec
-    (λ c κs. search needs) (λ c. omega arith) (λ c. omega arith) (λ c. omega arith) (λ c κs. search needs)
-    touched-sources-requires returns)
+    (λ c κs. search needs) (λ c κs. search needs) touched-sources-requires returns)
