@@ -152,7 +152,7 @@ after c t = cond (accepted (refusal c t)) (filled scale (c .n) (rule (c .n) (c .
 unfoldable pub answer : Call → Tables → Answer
 answer c t = reply (refusal c t) (rule (c .n) (c .ask) (t .cost))
 
--- what the contract of every call promises: lent the tables t, it left the tables t′ and answered a, as document 01 says
+-- what the contract of every call promises: lent the tables t, it left the tables t′ and answered a, as the documents say
 pub record Done (c : Call) (t t′ : Tables) (a : Answer) : Type 0 where
   pub left : t′ ≡ after c t
   pub answered : a ≡ answer c t

@@ -29,7 +29,7 @@ ofEdited a = record { refusal = a .refusal; touched = a .touched; rows = a .rows
 abbrev pub ofWritten : HallWritten → List ℕ → Numbers
 ofWritten a buffer = record { refusal = a .refusal; touched = 0; rows = 0; before = 0; length = a .length; buffer = buffer }
 
--- a call did what document 01 says: the tables that it left, and its answer
+-- a call did what the documents say: the tables that it left, and its answer
 pub record Handed (c : Call) (t t′ : Tables) (x : Numbers) : Type 0 where
   pub left : t′ ≡ after c t
   pub said : x ≡ inNumbers (answer c t)

@@ -69,7 +69,7 @@ fn cost_before(call: Call, before: Tables, refusal: u64) -> u64 {
     at(&before.cost, place(call.n, call.u, call.v))
 }
 
-// How many of an edit's set, number and cost before are not the lister's and not that of the tables before it.
+// How many of an edit's set and number are not the lister's, and its cost before if it is not that of the tables before.
 pub fn unlisted_answer(call: Call, before: Tables, after: Tables, answer: Answer) -> u64 {
     let set = touched(call, before, after, answer.refusal);
     let cost = cost_before(call, before, answer.refusal);
