@@ -1,4 +1,4 @@
-/* A small hall from a C host: built, edited, scored, written as an image and read back, with refusals shown and edits taken back;
+/* A small hall from a C host: built, edited, scored, written as an image and read back, with refusals shown and edits reversed;
  * then a line of 64 stops. What it prints stands in example.out. */
 #include "hall.h"
 
@@ -137,8 +137,8 @@ static void worn_belt(const hall_tables *hall)
 
 typedef enum { INSERT, CHEAPEN, RAISE, DELETE } edit_kind;
 
-/* The edit that takes an accepted one back, from its kind, its stops and its answer. */
-static hall_edited take_back(const hall_tables *t, edit_kind kind, uint64_t from, uint64_t to, hall_edited e)
+/* The edit that reverses an accepted one, from its kind, its stops and its answer. */
+static hall_edited reverse(const hall_tables *t, edit_kind kind, uint64_t from, uint64_t to, hall_edited e)
 {
     switch (kind) {
     case INSERT: return delete_link(t, from, to);
@@ -149,7 +149,7 @@ static hall_edited take_back(const hall_tables *t, edit_kind kind, uint64_t from
     return insert(t, from, to, e.before);
 }
 
-/* What if the belt from 2 to 3 closed, and what if one ran from 3 to 0? Each edit is looked at and taken back. Says whether all five
+/* What if the belt from 2 to 3 closed, and what if one ran from 3 to 0? Each edit is looked at and reversed. Says whether all five
  * tables are then those of before. */
 static int looked_at(const hall_tables *hall)
 {
@@ -159,11 +159,11 @@ static int looked_at(const hall_tables *hall)
 
     print_edit("delete 2 3", e);
     print_scores(hall);
-    print_edit("taken back", take_back(hall, DELETE, 2, 3, e));
+    print_edit("reversed", reverse(hall, DELETE, 2, 3, e));
     e = insert(hall, 3, 0, 5);
     print_edit("insert 3 0 5", e);
     print_scores(hall);
-    print_edit("taken back", take_back(hall, INSERT, 3, 0, e));
+    print_edit("reversed", reverse(hall, INSERT, 3, 0, e));
     same = same_tables(before, *hall);
     printf("after that: %s\n", same ? "same tables" : "OTHER TABLES");
     free_tables(before);
@@ -187,7 +187,7 @@ static int kept_as_image(const hall_tables *hall, const hall_tables *copy)
     return same;
 }
 
-/* Says whether the hall that was read back is the one that was written, edits that were taken back left nothing behind, and the
+/* Says whether the hall that was read back is the one that was written, edits that were reversed left nothing behind, and the
  * edited tables pass the audit. */
 static int small_hall(void)
 {

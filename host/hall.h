@@ -149,8 +149,8 @@ typedef enum {
  * last field lie 4 bytes of padding with unspecified content: compare the
  * fields, not the bytes.
  *
- * To take an accepted edit back, call on the tables that it left, with the
- * same n and the same stops:
+ * To reverse an accepted edit, call on the tables that it left, with the same
+ * n and the same stops:
  *
  *   after hall_insert    hall_delete
  *   after hall_cheapen   hall_raise, with `before` as the cost

@@ -165,9 +165,9 @@ static int as_kept(void)
 
 static int same_sources(hall_edited a, hall_edited b) { return a.touched == b.touched && a.rows == b.rows; }
 
-/* 21 ways from 0 to 1 over a stop each, of which the one over 3 is quickest: an edit of each kind changes the tables, and is taken
- * back from its answer. */
-static void taken_back(void)
+/* 21 ways from 0 to 1 over a stop each, of which the one over 3 is quickest: an edit of each kind changes the tables, and is
+ * reversed from its answer. */
+static void reversed(void)
 {
     hall_tables t = tables_of(25);
     hall_edited e, back;
@@ -218,7 +218,7 @@ int main(void)
     names_fit();
     most_ways();
     ways_in_16_bits();
-    taken_back();
+    reversed();
     longest_image();
     return wrong != 0;
 }

@@ -1,4 +1,4 @@
--- An accepted edit is taken back by its reversal, the edit that its kind, its stops and its answer give. Assumes nothing.
+-- An accepted edit is reversed by the one that its kind, its stops and its answer give, its reversal. Assumes nothing.
 use Prim.Native.Nat.{ℕ, _+_, _*_, _<_, _≤_}
 use mathlib.Core.Path.{_≡_, refl, sym, _∙_, ap}
 use mathlib.Core.Bool.{Bool, true, or-comm}
@@ -9,7 +9,7 @@ use borrow.Author.Tests.{eqb-true, eq-eqb, ltb-true, lt-ltb, le-leb}
 use Rattle.routes.specs.Route.{used}
 use Rattle.book.specs.Hall.{Tables, largestCost, mostWays, scale, upTo, entry, filled, validPair, right, touched}
 use Rattle.book.specs.Call.{Call, edit, accepted, otherCostTests, costTests, waysTest, costSet, withEdit, rule, refusal, after, answer, reverseKind, reversal}
-use Rattle.book.specs.Book.{TakesBack}
+use Rattle.book.specs.Book.{Reverses}
 use Rattle.book.specs.declared.Edit.{Edit}
 use Rattle.book.specs.declared.Kind.{Kind}
 use Rattle.book.specs.declared.Kind.the-variants.{Insert, Cheapen, Raise, Delete}
@@ -96,7 +96,7 @@ module _ (n : ℕ) (e : Edit) (cost : List ℕ) (h : Held n cost) (ok : accepted
   unfolding touched
   turned = λ i s. or-comm (used (entry n left) n s u v) (used (entry n cost) n s u v) i
 
-  pub rule-reversed : TakesBack call (filled scale n cost) (filled scale n left) (rule n (edit e) cost .says)
+  pub rule-reversed : Reverses call (filled scale n cost) (filled scale n left) (rule n (edit e) cost .says)
   unfolding answer rule filled
   rule-reversed = record {
     taken = back-taken;
@@ -104,10 +104,10 @@ module _ (n : ℕ) (e : Edit) (cost : List ℕ) (h : Held n cost) (ok : accepted
     touches = rw (back-taken, back-costs, turned) (refl, refl);
   }
 
--- on right tables, which an accepted edit has met: made directly after it, the reversal takes it back
+-- on right tables, which an accepted edit has met: made directly after it, its reversal reverses it
 pub edit-reversed : (n : ℕ) (e : Edit) (t : Tables) →
     let c : Call = record { n = n; ask = edit e } in
-    refusal c t ≡ Accepted → TakesBack (record { n = n; ask = edit (reversal (e .kind) (e .u) (e .v) (answer c t)) }) t (after c t) (answer c t)
+    refusal c t ≡ Accepted → Reverses (record { n = n; ask = edit (reversal (e .kind) (e .u) (e .v) (answer c t)) }) t (after c t) (answer c t)
 unfolding after answer rule
 edit-reversed n e t ok =
     let c : Call = record { n = n; ask = edit e } in

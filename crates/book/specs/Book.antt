@@ -76,9 +76,9 @@ changed n t t′ s =
     not (allTo n (λ x. eqb (entry n (t .time) s x) (entry n (t′ .time) s x) && (eqb (entry n (t .ways) s x) (entry n (t′ .ways) s x) &&
     eqb (entry n (t .share) s x) (entry n (t′ .share) s x))))
 
--- the call c takes an edit back that was answered with a: made on the tables t′ that the edit left, it is accepted, gives back the
--- five tables t of before, and touches the same sources
-pub record TakesBack (c : Call) (t t′ : Tables) (a : Answer) : Type 0 where
+-- the call c reverses an edit that was answered with a: made on the tables t′ that the edit left, it is accepted, gives back the five
+-- tables t of before, and touches the same sources
+pub record Reverses (c : Call) (t t′ : Tables) (a : Answer) : Type 0 where
   pub taken : refusal c t′ ≡ Accepted
   pub gives : after c t′ ≡ t
   pub touches : (answer c t′ .touched ≡ a .touched) × (answer c t′ .rows ≡ a .rows)
@@ -92,7 +92,7 @@ pub record EditFacts (n : ℕ) (e : Edit) (t t′ : Tables) (a : Answer) : Type 
       getD (t′ .score) x 0 + sumTo n (λ s. cond (has (a .touched) s) (entry n (t .share) s x) 0) ≡
       getD (t .score) x 0 + sumTo n (λ s. cond (has (a .touched) s) (entry n (t′ .share) s x) 0)
   pub tells : a .before ≡ entry n (t .cost) (e .u) (e .v)
-  pub reverses : TakesBack (record { n = n; ask = edit (reversal (e .kind) (e .u) (e .v) a) }) t t′ a
+  pub reverses : Reverses (record { n = n; ask = edit (reversal (e .kind) (e .u) (e .v) a) }) t t′ a
 
 -- five tables that an accepted empty hall with N filled, whatever it found in them
 pub record Started (N : ℕ) (start : Tables) : Type 0 where

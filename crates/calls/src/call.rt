@@ -52,7 +52,7 @@ pub fn plain(number: u64, n: u64) -> Call
     }
 }
 
-// The edits stand side by side.
+// Whether a call is an edit: their numbers stand side by side.
 pub fn is_edit(number: u64) -> bool
     ensures { λ r. ⌜ r ≡ (leb 3 number && leb number 6) ⌝ }
 {

@@ -335,7 +335,7 @@ fn opposite(number: u64) -> u64 {
     }
 }
 
-// The edit that takes an accepted one back: the opposite one of the same link, at the cost that it answered.
+// The edit that reverses an accepted one: the opposite one of the same link, at the cost that it answered.
 pub fn reversal(ask: Ask, answer: Answer) -> Ask {
     let made = ask.call;
     let cost = ask.cost;

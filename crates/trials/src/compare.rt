@@ -59,8 +59,8 @@ fn said(outcome: Outcome, verdict: Verdict) -> u64 {
     wrapping_add_u64(answers(answer, right), buffers)
 }
 
-// What an edit left that was to take another one back, and its answer, against the tables before the other one and its answer.
-pub fn taken_back(former: Tables, undone: Answer, left: Tables, answer: Answer) -> u64 {
+// What an edit left that was to reverse another one, and its answer, against the tables before the other one and its answer.
+pub fn reversed(former: Tables, undone: Answer, left: Tables, answer: Answer) -> u64 {
     sum(
         differing(left, former),
         unlike(answer.refusal, 0),

@@ -104,8 +104,8 @@ fn spoiled_trial(
     }
 }
 
-// Takes an accepted edit back, from what it answered: the five tables are to be those before it.
-fn taken_back(
+// Reverses an accepted edit, from what it answered: the five tables are to be those before it.
+fn reversed_trial(
     tally: &mut [u64; ROOM],
     ask: Ask,
     stops: u64,
@@ -126,12 +126,12 @@ fn taken_back(
     );
     let left = next.hall;
     let answer = next.answer;
-    tally::add_differences(tally, compare::taken_back(former, undone, left, answer));
+    tally::add_differences(tally, compare::reversed(former, undone, left, answer));
     next
 }
 
-// An accepted edit is now and then taken back at once.
-fn or_back(
+// An accepted edit is now and then reversed at once.
+fn or_reversed(
     seed: &mut u64,
     tally: &mut [u64; ROOM],
     ask: Ask,
@@ -148,7 +148,7 @@ fn or_back(
     if !once_in(seed, 3) {
         return state;
     }
-    taken_back(tally, ask, stops, former, state)
+    reversed_trial(tally, ask, stops, former, state)
 }
 
 // A call with chosen arguments.
@@ -163,7 +163,7 @@ fn step(seed: &mut u64, tally: &mut [u64; ROOM], stops: u64, state: State, call:
         }
     }
     let next = trial(tally, ask, stops, book, hall, false);
-    or_back(seed, tally, ask, stops, hall, next)
+    or_reversed(seed, tally, ask, stops, hall, next)
 }
 
 // An empty hall, over tables of any content.

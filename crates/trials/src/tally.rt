@@ -34,7 +34,7 @@ pub const SPOILED: usize = SEQUENCES + 6;
 // The number of the first answer with a difference.
 pub const FIRST: usize = SEQUENCES + 7;
 
-// Accepted edits that the next call took back, by call.
+// Accepted edits that the next call reversed, by call.
 const REVERSED: usize = SEQUENCES + 8;
 
 pub const ROOM: usize = REVERSED + CALLS;
@@ -61,7 +61,7 @@ pub fn add_differences(tally: &mut [u64; ROOM], differ: u64) {
     add(tally, DIFFERENCES, differ);
 }
 
-// Where the tally has the edits that were taken back, of a call.
+// Where the tally has the edits of a call that were reversed.
 fn reversed(call: u64) -> usize {
     if CALLS as u64 <= call {
         return ROOM;
