@@ -47,17 +47,15 @@ cost-back Delete c present next most e =
 
 -- an edit that passes its tests, over the costs of a hall
 module _ (n : ℕ) (e : Edit) (cost : List ℕ) (h : Held n cost) (ok : accepted (rule n (edit e) cost .tests) ≡ true) where
-  abbrev u : ℕ
-  u = e .u
-
-  abbrev v : ℕ
-  v = e .v
+  -- what the link costs before the edit
+  abbrev present : ℕ
+  present = entry n cost (e .u) (e .v)
 
   abbrev left : List ℕ
   left = withEdit n e cost
 
   abbrev back : Edit
-  back = reversal (e .kind) u v (rule n (edit e) cost .says)
+  back = reversal (e .kind) (e .u) (e .v) (rule n (edit e) cost .says)
 
   abbrev call : Call
   call = record { n = n; ask = edit back }
@@ -65,24 +63,23 @@ module _ (n : ℕ) (e : Edit) (cost : List ℕ) (h : Held n cost) (ok : accepted
   p : Permitted n e cost
   p = permitted n e cost ok
 
-  set-now : entry n left u v ≡ costSet (e .kind) (e .cost)
-  set-now = entry-edited n e cost h p u v (p .to) ∙ rw (eq-eqb u u refl, eq-eqb v v refl)
+  set-now : entry n left (e .u) (e .v) ≡ costSet (e .kind) (e .cost)
+  set-now = entry-edited n e cost h p (e .u) (e .v) (p .to) ∙ rw (eq-eqb (e .u) (e .u) refl, eq-eqb (e .v) (e .v) refl)
 
-  pair : validPair n u v ≡ true
+  pair : validPair n (e .u) (e .v) ≡ true
   unfolding rule
-  pair = need-true (validPair n u v) BadStop _ refl ok .0
+  pair = need-true (validPair n (e .u) (e .v)) BadStop _ refl ok .0
 
-  costs : (costTests (reverseKind (e .kind)) (entry n cost u v) (costSet (e .kind) (e .cost)) Accepted ≡ Accepted) ×
-      (costSet (reverseKind (e .kind)) (entry n cost u v) ≡ entry n cost u v)
+  costs : (costTests (reverseKind (e .kind)) present (costSet (e .kind) (e .cost)) Accepted ≡ Accepted) × (costSet (reverseKind (e .kind)) present ≡ present)
   unfolding rule
   costs =
-      let most = valid-costs n cost (h .valid) .most u v (p .from) (p .to) in
-      cost-back (e .kind) (e .cost) (entry n cost u v) (waysTest n left) most (need-true (validPair n u v) BadStop _ refl ok .1)
+      let most = valid-costs n cost (h .valid) .most (e .u) (e .v) (p .from) (p .to) in
+      cost-back (e .kind) (e .cost) present (waysTest n left) most (need-true (validPair n (e .u) (e .v)) BadStop _ refl ok .1)
 
   -- the cost before at its place again
   back-costs : withEdit n back left ≡ cost
   unfolding rule
-  back-costs = set-set cost (u * n + v) _ _ ∙ rw (costs .1) (set-getD cost (u * n + v) 0)
+  back-costs = set-set cost (e .u * n + e .v) _ _ ∙ rw (costs .1) (set-getD cost (e .u * n + e .v) 0)
 
   back-taken : refusal call (filled scale n left) ≡ Accepted
   unfolding rule filled
@@ -92,9 +89,9 @@ module _ (n : ℕ) (e : Edit) (cost : List ℕ) (h : Held n cost) (ok : accepted
       (right-filled scale mostWays n left (h′ .valid) (h′ .few)) pair (rw set-now (costs .0)) (rw back-costs (h .few))
 
   -- touched is touched, whichever of the two halls comes first
-  turned : touched n left cost u v ≡ touched n cost left u v
+  turned : touched n left cost (e .u) (e .v) ≡ touched n cost left (e .u) (e .v)
   unfolding touched
-  turned = λ i s. or-comm (used (entry n left) n s u v) (used (entry n cost) n s u v) i
+  turned = λ i s. or-comm (used (entry n left) n s (e .u) (e .v)) (used (entry n cost) n s (e .u) (e .v)) i
 
   pub rule-reversed : Reverses call (filled scale n cost) (filled scale n left) (rule n (edit e) cost .says)
   unfolding answer rule filled

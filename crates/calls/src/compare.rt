@@ -8,6 +8,7 @@ use super::tables::Tables;
 use std::num::wrapping_add_u64;
 ghost use mathlib.Core.Path.{_≡_};
 ghost use Prim.Native.Nat.{_≤_};
+ghost use Rattle.calls.specs.Alike.{Alike};
 
 // 1 where two numbers differ.
 pub fn unlike(x: u64, y: u64) -> u64
@@ -41,7 +42,7 @@ pub fn sum(a: u64, b: u64, c: u64, d: u64, e: u64) -> u64 {
 
 // The numbers of two answers.
 pub fn answers(a: Answer, b: Answer) -> u64
-    ensures { λ r. ⌜ (r ≡ 0 → (a .refusal ≡ b .refusal) × (a .touched ≡ b .touched) × (a .rows ≡ b .rows) × (a .before ≡ b .before) × (a .length ≡ b .length)) ⌝ }
+    ensures { λ r. ⌜ (r ≡ 0 → Alike a b) × (Alike a b → r ≡ 0) ⌝ }
 {
     let refusals = unlike(a.refusal, b.refusal);
     let sets = unlike(a.touched, b.touched);

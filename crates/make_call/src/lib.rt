@@ -38,7 +38,7 @@ pub struct Done {
 
 // An image check, which takes no tables.
 pub fn check(image: &[u8], n: u64) -> Answer
-    ensures { λ a. ⌜ a .refusal ≡ number (imageCheck n (now (image .entry))) ⌝ }
+    ensures { λ a. ⌜ (a .refusal ≡ number (imageCheck n (now (image .entry)))) × (a .touched ≡ 0) × (a .rows ≡ 0) × (a .before ≡ 0) × (a .length ≡ 0) ⌝ }
 {
     of_refusal(image_check(image, n))
 }

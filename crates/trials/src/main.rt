@@ -130,25 +130,15 @@ fn reversed_trial(
     next
 }
 
-// An accepted edit is now and then reversed at once.
-fn or_reversed(
-    seed: &mut u64,
-    tally: &mut [u64; ROOM],
-    ask: Ask,
-    stops: u64,
-    former: Tables,
-    state: State,
-) -> State {
-    if state.refused {
-        return state;
+// Whether to reverse a call at once: now and then, where it is an accepted edit.
+fn to_reverse(seed: &mut u64, call: u64, refused: bool) -> bool {
+    if refused {
+        return false;
     }
-    if !is_edit(ask.call.number) {
-        return state;
+    if !is_edit(call) {
+        return false;
     }
-    if !once_in(seed, 3) {
-        return state;
-    }
-    reversed_trial(tally, ask, stops, former, state)
+    once_in(seed, 3)
 }
 
 // A call with chosen arguments.
@@ -163,7 +153,10 @@ fn step(seed: &mut u64, tally: &mut [u64; ROOM], stops: u64, state: State, call:
         }
     }
     let next = trial(tally, ask, stops, book, hall, false);
-    or_reversed(seed, tally, ask, stops, hall, next)
+    if to_reverse(seed, call, next.refused) {
+        return reversed_trial(tally, ask, stops, hall, next);
+    }
+    next
 }
 
 // An empty hall, over tables of any content.

@@ -8,7 +8,8 @@ use Rattle.make_call.proofs.check.Tie as tie
 returns : tie.Need-returns
 returns c =
     let checked : tie.After-image-check = search in
-    c .of-refusal .ensures .0 ∙ ap number (checked .image-check .ensures)
+    let e = c .of-refusal .ensures in
+    (e .0 ∙ ap number (checked .image-check .ensures), e .1, e .2, e .3, e .4)
 
 pub check-spec : {M : Type 1} → statement M
 check-spec = tie.close (tie.spec (λ c κs. search needs) (λ c κs. search needs) returns)
