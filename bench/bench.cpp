@@ -1,6 +1,7 @@
 // Work out, audit and edit of the proved library beside Boost's and igraph's betweenness, in one process and on the same
-// graphs; and a raise beside the delete and the insert that said the same before there was one. Times are the least of many
-// runs, taken in turn; ratios are theirs, or those of the two edits, divided by ours.
+// graphs; a raise beside the delete and the insert that said the same before there was one; and a list of eight edits beside the
+// same eight one by one. Times are the least of many runs, taken in turn; ratios are theirs, or those of the two edits, divided by
+// ours, and for lists the list divided by the single edits.
 #include "halls.h"
 
 #include <boost/graph/adjacency_list.hpp>
@@ -127,6 +128,43 @@ static Slower slower(Hall &h, const std::vector<Link> &links) {
     return count ? Slower{sum.raise / count, sum.two / count} : Slower{};
 }
 
+// Microseconds of a list of eight edits, and of the same eight one by one.
+struct Lists {
+    double list = 0, single = 0;
+};
+
+// Means over the links by eights. Eight are deleted and inserted again, the last one first, so that the halls on the way back are
+// those on the way out, as two lists and one by one; each counts with its least time of ten rounds. Eights of which a delete is
+// refused are left out.
+static Lists lists(Hall &h, const std::vector<Link> &links) {
+    Lists sum;
+    uint64_t count = 0;
+    for (size_t at = 0; at + 8 <= links.size(); at += 8) {
+        std::vector<hall_edit> out, in;
+        for (size_t i = at; i < at + 8; i++) {
+            out.push_back({HALL_DELETE, links[i].from, links[i].to, 0});
+            in.insert(in.begin(), {HALL_INSERT, links[i].from, links[i].to, links[i].cost});
+        }
+        double list[2] = {1e300, 1e300}, single[16];
+        std::fill(single, single + 16, 1e300);
+        bool taken = true;
+        for (int round = 0; taken && round < 10; round++) {
+            hall_listed a = {}, b = {};
+            list[0] = std::min(list[0], time_of([&] { a = h.edit_list(out); }));
+            if (!(taken = a.refusal == HALL_ACCEPTED)) break;
+            list[1] = std::min(list[1], time_of([&] { b = h.edit_list(in); }));
+            taken = b.refusal == HALL_ACCEPTED;
+            for (size_t i = 0; taken && i < 8; i++) taken = timed(single[i], [&] { return h.remove(out[i].from, out[i].to); });
+            for (size_t i = 0; taken && i < 8; i++) taken = timed(single[8 + i], [&] { return h.insert(in[i].from, in[i].to, in[i].c); });
+        }
+        if (!taken) continue;
+        sum.list += list[0] + list[1];
+        for (double t : single) sum.single += t;
+        count += 2;
+    }
+    return count ? Lists{sum.list / count, sum.single / count} : Lists{};
+}
+
 static int measure(const std::string &name, Hall h, std::mt19937 &random) {
     if (h.work_out() != HALL_ACCEPTED) {
         std::printf("%-28s refused\n", name.c_str());
@@ -153,11 +191,12 @@ static int measure(const std::string &name, Hall h, std::mt19937 &random) {
     std::vector<uint32_t> costs = h.cost;
     Edits e = edits(h, links);
     Slower s = slower(h, links);
+    Lists l = lists(h, links);
     same = same && h.cost == costs && h.audit() == HALL_ACCEPTED;
 
-    std::printf("%-28s %5zu %6zu | %8.1f %8.1f %8.1f %5.1f %8.1f | %6.2f %6.2f | %6.2f | %6.2f %6.2f | %8.2f | %s\n", name.c_str(),
+    std::printf("%-28s %5zu %6zu | %8.1f %8.1f %8.1f %5.1f %8.1f | %6.2f %6.2f | %6.2f | %6.2f %6.2f | %8.2f | %8.1f %6.3f | %s\n", name.c_str(),
                 links_of(h).size(), useful_links(h), ours, audit, e.edit, e.rows, s.raise, theirs / ours, others / ours, theirs / audit,
-                theirs / e.edit, others / e.edit, s.two / s.raise, same ? "agree" : "DIFFER");
+                theirs / e.edit, others / e.edit, s.two / s.raise, l.list, l.list / l.single, same ? "agree" : "DIFFER");
     return same ? 0 : 1;
 }
 
@@ -173,10 +212,10 @@ static void write_links(const char *path, const Hall &h) {
 
 int main(int argc, char **argv) {
     std::mt19937 random(7);
-    std::printf("%-28s %5s %6s | %8s %8s %8s %5s %8s | %6s %6s | %6s | %6s %6s | %8s |\n", "hall", "links", "useful", "work out",
-                "audit", "edit", "rows", "raise", "Boost", "igraph", "Boost", "Boost", "igraph", "2 edits");
-    std::printf("%-28s %5s %6s | %8s %8s %8s %5s %8s | %13s | %6s | %13s | %8s |\n", "", "", "", "us", "us", "us", "", "us",
-                "/ work out", "/audit", "/ edit", "/ raise");
+    std::printf("%-28s %5s %6s | %8s %8s %8s %5s %8s | %6s %6s | %6s | %6s %6s | %8s | %8s %6s |\n", "hall", "links", "useful",
+                "work out", "audit", "edit", "rows", "raise", "Boost", "igraph", "Boost", "Boost", "igraph", "2 edits", "list", "list");
+    std::printf("%-28s %5s %6s | %8s %8s %8s %5s %8s | %13s | %6s | %13s | %8s | %8s %6s |\n", "", "", "", "us", "us", "us", "", "us",
+                "/ work out", "/audit", "/ edit", "/ raise", "of 8, us", "/ 8");
     int bad = 0;
     for (size_t links : {128, 256, 1024, 4032}) {
         Hall h = random_hall(64, links, random);

@@ -46,6 +46,10 @@ struct Hall {
         hall_tables t = tables();
         return hall_delete(n, u, v, HALL_TABLES(t));
     }
+    hall_listed edit_list(const std::vector<hall_edit> &list) {
+        hall_tables t = tables();
+        return hall_edit_list(n, list.data(), list.size(), HALL_TABLES(t));
+    }
 };
 
 struct Link {

@@ -1,5 +1,5 @@
-/* A small hall from a C host: built, edited, scored, written as an image and read back, with refusals shown and edits reversed;
- * then a line of 64 stops. What it prints stands in example.out. */
+/* A small hall from a C host: built, edited, scored, written as an image and read back, with refusals shown, edits reversed and a
+ * shift changed in one go; then a line of 64 stops. What it prints stands in example.out. */
 #include "hall.h"
 
 #include <inttypes.h>
@@ -23,6 +23,8 @@ static const char *words(uint32_t refusal)
     case HALL_BAD_IMAGE: return "not an image of this hall";
     case HALL_SHORT_BUFFER: return "the buffer is too short";
     case HALL_TOO_MANY_WAYS: return "a pair would have too many ways";
+    case HALL_LIST_TOO_LONG: return "the list is too long";
+    case HALL_NO_KIND: return "no such kind of edit";
     }
     return "not a refusal";
 }
@@ -98,6 +100,11 @@ static inline hall_edited delete_link(const hall_tables *t, uint64_t from, uint6
     return hall_delete(t->n, from, to, HALL_TABLES(*t));
 }
 
+static inline hall_listed edit_list(const hall_tables *t, const hall_edit *list, size_t edits)
+{
+    return hall_edit_list(t->n, list, edits, HALL_TABLES(*t));
+}
+
 static inline hall_written image_write(const hall_tables *t, uint8_t *buffer, size_t length)
 {
     return hall_image_write(t->n, HALL_TABLES(*t), buffer, length);
@@ -120,6 +127,12 @@ static void print_edit(const char *what, hall_edited e)
 {
     printf("%s: %" PRIu32 " %s, %" PRIu32 " rows touched, set %#" PRIx64 ", cost before %" PRIu32 "\n", what, e.refusal, words(e.refusal),
            e.rows, e.touched, e.before);
+}
+
+static void print_list(const char *what, hall_listed l)
+{
+    printf("%s: %" PRIu32 " %s, place %" PRIu32 ", %" PRIu32 " rows touched, set %#" PRIx64 "\n", what, l.refusal, words(l.refusal),
+           l.place, l.rows, l.touched);
 }
 
 static void print_call(const char *what, uint32_t refusal)
@@ -170,6 +183,27 @@ static int looked_at(const hall_tables *hall)
     return same;
 }
 
+/* At the shift change the belt from 2 to 3 closes and two open, in one call; back again the same way. A list in which an edit is
+ * refused, here the second, since that belt is closed by then, changes nothing. Says whether all five tables are then those of
+ * before. */
+static int shift_change(const hall_tables *hall)
+{
+    const hall_edit night[] = {{HALL_DELETE, 2, 3, 0}, {HALL_INSERT, 2, 1, 2}, {HALL_INSERT, 3, 0, 5}};
+    const hall_edit twice[] = {{HALL_DELETE, 2, 1, 0}, {HALL_DELETE, 2, 1, 0}};
+    const hall_edit day[] = {{HALL_DELETE, 3, 0, 0}, {HALL_DELETE, 2, 1, 0}, {HALL_INSERT, 2, 3, 5}};
+    hall_tables before = copy_of(*hall);
+    int same;
+
+    print_list("night shift", edit_list(hall, night, 3));
+    print_scores(hall);
+    print_list("closed twice", edit_list(hall, twice, 2));
+    print_list("day shift", edit_list(hall, day, 3));
+    same = same_tables(before, *hall);
+    printf("after that: %s\n", same ? "same tables" : "OTHER TABLES");
+    free_tables(before);
+    return same;
+}
+
 /* Writes the hall as an image and reads it back over the tables of another. Says whether they are the same then. */
 static int kept_as_image(const hall_tables *hall, const hall_tables *copy)
 {
@@ -187,13 +221,13 @@ static int kept_as_image(const hall_tables *hall, const hall_tables *copy)
     return same;
 }
 
-/* Says whether the hall that was read back is the one that was written, edits that were reversed left nothing behind, and the
- * edited tables pass the audit. */
+/* Says whether the hall that was read back is the one that was written, edits that were reversed and a shift left nothing behind,
+ * and the edited tables pass the audit. */
 static int small_hall(void)
 {
     hall_tables hall = make_tables(4), copy = make_tables(4);
     uint32_t refusal;
-    int same, back;
+    int same, back, shifts;
 
     print_call("empty hall", empty(&hall));
     print_edit("insert 0 1 5", insert(&hall, 0, 1, 5));
@@ -210,6 +244,7 @@ static int small_hall(void)
     same = kept_as_image(&hall, &copy);
     worn_belt(&hall);
     back = looked_at(&hall);
+    shifts = shift_change(&hall);
 
     /* A stray write is found by the call itself. */
     copy.ways[3] += 1;
@@ -218,7 +253,7 @@ static int small_hall(void)
     print_call("audit", refusal);
     free_tables(hall);
     free_tables(copy);
-    return same && back && refusal == HALL_ACCEPTED;
+    return same && back && shifts && refusal == HALL_ACCEPTED;
 }
 
 /* A one-way line of 64 stops: 31 stops lie before stop 31 and 32 behind it, so that 992 routes pass it. Says whether they do. */

@@ -24,8 +24,8 @@
  * nothing back and leaves errno alone.
  *
  * A call needs at most HALL_STACK bytes of stack, 96 KiB. Measured: image read
- * 83 KiB, work out 69 KiB, all others below 4 KiB; the rest is a margin, for the
- * dynamic linker at the first call among others.
+ * 83 KiB, work out 69 KiB, a list of edits 5 KiB, all others below 4 KiB; the
+ * rest is a margin, for the dynamic linker at the first call among others.
  *
  * The library is proved; that this header fits it is not. `make -C host check`
  * tries it. The two go together: compile a host anew for another release of
@@ -34,7 +34,7 @@
  *
  * MEMORY
  *
- * The host owns every table, image and buffer and lends them for one call. A
+ * The host owns every table, list, image and buffer and lends them for one call. A
  * call allocates nothing and keeps no pointer. Each table is passed as a
  * pointer and the number of its entries:
  *
@@ -54,8 +54,9 @@
  * - Each pointer must be aligned and lead to as many entries as its length
  *   says, even where the call will refuse. Else, and so for NULL with a length
  *   other than 0, it is undefined behaviour.
- * - NULL with length 0 is allowed everywhere, for tables, images and buffers,
- *   and is refused like any other length that does not fit.
+ * - NULL with length 0 is allowed everywhere, for tables, lists, images and
+ *   buffers. It is refused like any other length that does not fit, but as a
+ *   list it fits: it has no edits.
  *
  * A table that is const is only read. Calls on different tables may run at the
  * same time, and so may calls that only read the tables they share. While a
@@ -65,26 +66,28 @@
  * REFUSED CALLS, AND CALLS THAT ARE CUT SHORT
  *
  * A call that refuses has changed nothing that it was lent, once it returns.
- * While it runs, this does not hold: work out, image read and the edits write
- * rows before they know that they must refuse with 11, and then put back what
- * was there. A signal handler, another thread or a process that shares the
+ * While it runs, this does not hold: work out, image read, the edits and a list
+ * of edits write rows before they know that they must refuse, and then put back
+ * what was there. A signal handler, another thread or a process that shares the
  * memory can see that.
  *
  * A host that is killed inside a call can leave tables (in shared memory or a
  * mapped file) that are half written. hall_audit answers 3 for tables that do
  * not belong together. It cannot tell which links they were meant to have:
- * the cost table may hold a link before or after its edit, and after empty
- * hall or image read a part of the old links and a part of the new ones. So
- * keep the last good image apart, and read it after a kill; or bring a cost
- * table that is known to be good to work out. A half-written image can pass
- * the image check too: keep the old one until the call has returned.
+ * the cost table may hold a link before or after its edit, after a list some
+ * of its edits, and after empty hall or image read a part of the old links and
+ * a part of the new ones. So keep the last good image apart, and read it after
+ * a kill; or bring a cost table that is known to be good to work out. A
+ * half-written image can pass the image check too: keep the old one until the
+ * call has returned.
  *
  *
  * REFUSALS
  *
  * Every call answers a refusal, 0 for accepted. Each call lists those that it
- * knows, in the order in which it tests them, which is rising; the first that
- * applies is the answer. The names are those of hall_refusal below.
+ * knows, in the order in which it tests them; the first that applies is the
+ * answer. That order is rising, but that a list is tested for 12 before its
+ * edits are. The names are those of hall_refusal below.
  *
  *    0  HALL_ACCEPTED
  *    1  HALL_BAD_SIZE         n is 0 or above 64
@@ -104,6 +107,13 @@
  *    9  HALL_BAD_IMAGE        the bytes are no image of a hall of n stops
  *   10  HALL_SHORT_BUFFER     the image buffer is too short
  *   11  HALL_TOO_MANY_WAYS    the hall would have a pair with more than 22 ways
+ *   12  HALL_LIST_TOO_LONG    a list has more than 32 edits
+ *
+ * One answer stands for a call that is not made, since it was given no list of
+ * edits. It comes before all refusals, 1 included:
+ *
+ *  255  HALL_NO_KIND          one of the first 32 edits of a list has a kind
+ *                             that is none
  */
 
 #if !defined(__x86_64__) || defined(__ILP32__) || !defined(__linux__)
@@ -121,6 +131,7 @@ extern "C" {
 #define HALL_STOPS UINT64_C(64)             /* most stops */
 #define HALL_LARGEST_COST UINT32_C(65535)   /* of a link */
 #define HALL_WAYS UINT32_C(22)              /* most quickest routes of a pair */
+#define HALL_EDITS UINT64_C(32)             /* most edits of a list */
 #define HALL_MARK UINT32_C(4294967295)      /* the time where there is no route */
 #define HALL_SCALE UINT64_C(232792560)      /* one route, in a share or a score */
 #define HALL_LONGEST_IMAGE UINT64_C(16136)  /* bytes: 8, and 4 for each link */
@@ -139,8 +150,28 @@ typedef enum {
     HALL_COST_WRONG_SIDE = 8,
     HALL_BAD_IMAGE = 9,
     HALL_SHORT_BUFFER = 10,
-    HALL_TOO_MANY_WAYS = 11
+    HALL_TOO_MANY_WAYS = 11,
+    HALL_LIST_TOO_LONG = 12,
+    HALL_NO_KIND = 255
 } hall_refusal;
+
+/* The kinds of edit in a list. 0 is none of them, so that an edit that was
+ * never filled in is not taken for one. */
+typedef enum {
+    HALL_INSERT = 1,
+    HALL_CHEAPEN = 2,
+    HALL_RAISE = 3,
+    HALL_DELETE = 4
+} hall_kind;
+
+/* One edit of a list: its kind, a hall_kind, the two stops, and the cost, which
+ * is not read for HALL_DELETE. */
+typedef struct {
+    uint64_t kind;
+    uint64_t from;
+    uint64_t to;
+    uint64_t c;
+} hall_edit;
 
 /* An edit's answer: its refusal, the number of touched sources (those from
  * which a quickest route, before or after, uses the edited link), their set,
@@ -165,6 +196,21 @@ typedef struct {
     uint64_t touched;
     uint32_t before;
 } hall_edited;
+
+/* A list's answer: its refusal; the place of the first refused edit, counted
+ * from 1, 0 where no edit was refused (so also for 1, 2, 3 and 12), and for
+ * HALL_NO_KIND that of the first edit without a kind; the set of
+ * the sources that some edit touched, bit s for source s, and their number.
+ * Rows of other sources are as they were; the row of a source in the set may
+ * be so too, where a later edit undid an earlier one. Refused: an empty set and
+ * 0 rows. Behind the last field lie 4 bytes of padding with unspecified
+ * content: compare the fields, not the bytes. */
+typedef struct {
+    uint32_t refusal;
+    uint32_t place;
+    uint64_t touched;
+    uint32_t rows;
+} hall_listed;
 
 /* An image write's answer: its refusal, and the length of the image, 0 if
  * refused. Between the two lie 4 bytes of padding with unspecified content:
@@ -257,6 +303,40 @@ hall_edited hall_delete(uint64_t n, uint64_t from, uint64_t to,
                         uint32_t *ways, size_t ways_length,
                         uint64_t *share, size_t share_length,
                         uint64_t *score, size_t score_length);
+
+/* A list of edits in one go, four numbers for each as in hall_edit, so that
+ * list_length is 4 for each edit; one of the first 32 with fewer than four is
+ * an edit without a kind. C and C++ call hall_edit_list, which hands on to it.
+ * Refusals 1, 2, 3, 12, and of an edit 4, 5, 6, 7, 8, 11; and HALL_NO_KIND. */
+hall_listed hall_edit_numbers(uint64_t n, const uint64_t *list, size_t list_length,
+                              uint32_t *cost, size_t cost_length,
+                              uint32_t *time, size_t time_length,
+                              uint32_t *ways, size_t ways_length,
+                              uint64_t *share, size_t share_length,
+                              uint64_t *score, size_t score_length);
+
+/* Audits the tables and makes all edits of a list, or none. They are judged in
+ * turn, each in the hall that its predecessors made, by what would refuse it
+ * alone; so a list may be refused with 11 because of a state on the way. The
+ * tables are audited once. Refused, they are as they were, whatever the place.
+ * A list of no edits is accepted if the tables pass 1, 2 and 3, and touches
+ * none. If one of the first 32 edits has a kind that is none, the answer is
+ * HALL_NO_KIND with its place, whatever the other arguments are, and nothing is
+ * changed. Refusals as above. */
+static inline hall_listed hall_edit_list(uint64_t n, const hall_edit *list, size_t edits,
+                                         uint32_t *cost, size_t cost_length,
+                                         uint32_t *time, size_t time_length,
+                                         uint32_t *ways, size_t ways_length,
+                                         uint64_t *share, size_t share_length,
+                                         uint64_t *score, size_t score_length)
+{
+    /* a longer list is refused as one of 33, so that the product does not wrap */
+    size_t numbers = 4 * (edits > HALL_EDITS ? HALL_EDITS + 1 : edits);
+
+    return hall_edit_numbers(n, (const uint64_t *)list, numbers,
+                             cost, cost_length, time, time_length, ways, ways_length,
+                             share, share_length, score, score_length);
+}
 
 /* Audits the tables and writes the hall's links to a buffer: 4 bytes for each
  * and 8 more, at most HALL_LONGEST_IMAGE. The buffer may be longer; its bytes

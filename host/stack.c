@@ -25,6 +25,8 @@ static void insert(void) { answer = hall_insert(N, 0, 1, 10, HALL_TABLES(t)).ref
 static void cheapen(void) { answer = hall_cheapen(N, 0, 1, 10, HALL_TABLES(t)).refusal; }
 static void raise_cost(void) { answer = hall_raise(N, 0, 1, 10, HALL_TABLES(t)).refusal; }
 static void delete_link(void) { answer = hall_delete(N, 0, 1, HALL_TABLES(t)).refusal; }
+static hall_edit list[2] = {{HALL_INSERT, 1, 0, 10}, {HALL_DELETE, 0, 1, 0}};
+static void edit_list(void) { answer = hall_edit_list(N, list, 2, HALL_TABLES(t)).refusal; }
 static void image_read(void) { answer = hall_image_read(N, image, image_length, HALL_TABLES(t)); }
 static void image_check(void) { answer = hall_image_check(image, image_length, N); }
 
@@ -87,6 +89,7 @@ int main(void)
     good &= fits("work out", work_out, HALL_ACCEPTED);
     good &= fits("raise", raise_cost, HALL_TOO_MANY_WAYS);
     good &= fits("delete", delete_link, HALL_TOO_MANY_WAYS);
+    good &= fits("list", edit_list, HALL_TOO_MANY_WAYS);
     good &= fits("audit", audit, HALL_ACCEPTED);
     good &= fits("image write", image_write, HALL_ACCEPTED);
     good &= fits("image check", image_check, HALL_ACCEPTED);

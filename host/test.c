@@ -11,9 +11,14 @@ _Static_assert(sizeof HALL_SCALE == sizeof(uint64_t) && sizeof HALL_STOPS == siz
 _Static_assert(sizeof HALL_MARK == sizeof(uint32_t) && sizeof HALL_WAYS == sizeof(uint32_t), "as wide as an entry");
 _Static_assert(sizeof HALL_LARGEST_COST == sizeof(uint32_t), "as wide as an entry");
 
-/* An edit's answer in memory, an image write's in two registers, as the archive returns them. */
+/* An edit's answer and a list's in memory, an image write's in two registers, as the archive returns them; an edit of a list as it
+ * is read. */
 _Static_assert(sizeof(hall_edited) == 24 && offsetof(hall_edited, rows) == 4, "layout, with 4 bytes of padding");
 _Static_assert(offsetof(hall_edited, touched) == 8 && offsetof(hall_edited, before) == 16, "layout");
+_Static_assert(sizeof(hall_listed) == 24 && offsetof(hall_listed, place) == 4, "layout, with 4 bytes of padding");
+_Static_assert(offsetof(hall_listed, touched) == 8 && offsetof(hall_listed, rows) == 16, "layout");
+_Static_assert(sizeof(hall_edit) == 4 * sizeof(uint64_t) && offsetof(hall_edit, from) == sizeof(uint64_t), "four numbers");
+_Static_assert(offsetof(hall_edit, to) == 16 && offsetof(hall_edit, c) == 24, "in this order");
 _Static_assert(sizeof(hall_written) == 16 && offsetof(hall_written, length) == 8, "layout, with 4 bytes of padding");
 
 static int wrong;
@@ -53,11 +58,14 @@ static void null_is_empty(void)
         HOLDS(hall_cheapen(n, 0, 1, 1, NONE).refusal == expected);
         HOLDS(hall_raise(n, 0, 1, 1, NONE).refusal == expected);
         HOLDS(hall_delete(n, 0, 1, NONE).refusal == expected);
+        HOLDS(hall_edit_list(n, NULL, 0, NONE).refusal == expected);
+        HOLDS(hall_edit_numbers(n, NULL, 0, NONE).refusal == expected);
         HOLDS(hall_image_write(n, NONE, NULL, 0).refusal == expected);
         HOLDS(hall_image_read(n, NULL, 0, NONE) == expected);
         HOLDS(hall_image_check(NULL, 0, n) == (n == 0 ? HALL_BAD_SIZE : HALL_BAD_IMAGE));
     }
     HOLDS(hall_empty(t.n, HALL_TABLES(t)) == HALL_ACCEPTED);
+    HOLDS(hall_edit_list(t.n, NULL, 0, HALL_TABLES(t)).refusal == HALL_ACCEPTED);
     HOLDS(hall_image_write(t.n, HALL_TABLES(t), NULL, 0).refusal == HALL_SHORT_BUFFER);
     HOLDS(hall_image_read(t.n, NULL, 0, HALL_TABLES(t)) == HALL_BAD_IMAGE);
 }
@@ -196,6 +204,55 @@ static void reversed(void)
     HOLDS(back.refusal == HALL_ACCEPTED && same_sources(back, e) && back.before == 0 && as_kept());
 }
 
+static int answers(hall_listed a, uint32_t refusal, uint32_t place, uint64_t touched, uint32_t rows)
+{
+    return a.refusal == refusal && a.place == place && a.touched == touched && a.rows == rows;
+}
+
+/* A list of each kind of edit, four numbers each, on a line of four stops: 0 to 1 to 2 to 3 of 5 each. */
+static void listed(void)
+{
+    hall_tables t = tables_of(4);
+    hall_edit list[34] = {
+        {HALL_INSERT, 0, 3, 20}, {HALL_CHEAPEN, 0, 3, 15}, {HALL_RAISE, 2, 3, 6}, {HALL_DELETE, 1, 2, 99}, {HALL_DELETE, 1, 2, 99}};
+
+    memset(cost, 0, sizeof cost);
+    for (uint64_t u = 0; u < 3; u++)
+        cost[u * 4 + u + 1] = 5;
+    HOLDS(hall_work_out(4, HALL_TABLES(t)) == HALL_ACCEPTED);
+    keep();
+    HOLDS(answers(hall_edit_list(4, list, 0, HALL_TABLES(t)), HALL_ACCEPTED, 0, 0, 0) && as_kept());
+    /* the insert is on no quickest route, the cheapened link ties, the raise reaches back to 0, the delete too */
+    HOLDS(answers(hall_edit_list(4, list, 1, HALL_TABLES(t)), HALL_ACCEPTED, 0, 0, 0) && cost[3] == 20);
+    HOLDS(answers(hall_edit_list(4, list + 1, 3, HALL_TABLES(t)), HALL_ACCEPTED, 0, 7, 3));
+    HOLDS(cost[3] == 15 && cost[11] == 6 && cost[6] == 0 && time[3] == 15 && time[6] == HALL_MARK);
+    keep();
+    /* each refused: nothing has changed, though edits before it were made */
+    HOLDS(answers(hall_edit_list(4, list, 5, HALL_TABLES(t)), HALL_LINK_PRESENT, 1, 0, 0) && as_kept());
+    list[0] = (hall_edit){HALL_DELETE, 0, 3, 0};
+    list[1] = (hall_edit){HALL_INSERT, 1, 2, 5};
+    HOLDS(answers(hall_edit_list(4, list, 3, HALL_TABLES(t)), HALL_COST_WRONG_SIDE, 3, 0, 0) && as_kept());
+    list[2].c = 7;
+    HOLDS(answers(hall_edit_list(4, list, 5, HALL_TABLES(t)), HALL_LINK_ABSENT, 5, 0, 0) && as_kept());
+    /* a kind that is none comes first, whatever else is wrong; 33 edits are too many */
+    list[1].kind = 0;
+    HOLDS(answers(hall_edit_list(0, list, 5, HALL_TABLES(t)), HALL_NO_KIND, 2, 0, 0) && as_kept());
+    list[1].kind = HALL_DELETE + 1;
+    HOLDS(answers(hall_edit_list(4, list, 34, HALL_TABLES(t)), HALL_NO_KIND, 2, 0, 0) && as_kept());
+    for (int i = 0; i < 34; i++)
+        list[i] = i % 2 ? (hall_edit){HALL_DELETE, 3, 0, 0} : (hall_edit){HALL_INSERT, 3, 0, 1};
+    HOLDS(answers(hall_edit_list(4, list, 33, HALL_TABLES(t)), HALL_LIST_TOO_LONG, 0, 0, 0) && as_kept());
+    HOLDS(answers(hall_edit_list(4, list, SIZE_MAX, HALL_TABLES(t)), HALL_LIST_TOO_LONG, 0, 0, 0) && as_kept());
+    HOLDS(answers(hall_edit_list(4, list, (size_t)1 << 62, HALL_TABLES(t)), HALL_LIST_TOO_LONG, 0, 0, 0) && as_kept());
+    /* numbers that are no edit */
+    HOLDS(answers(hall_edit_numbers(4, &list[0].kind, 3, HALL_TABLES(t)), HALL_NO_KIND, 1, 0, 0) && as_kept());
+    HOLDS(answers(hall_edit_numbers(4, &list[0].kind, 7, HALL_TABLES(t)), HALL_NO_KIND, 2, 0, 0) && as_kept());
+    HOLDS(hall_edit_list(4, list, HALL_EDITS, HALL_TABLES(t)).refusal == HALL_ACCEPTED && as_kept());
+    HOLDS(answers(hall_edit_list(5, list, 33, HALL_TABLES(t)), HALL_BAD_LENGTH, 0, 0, 0));
+    ways[3]++;
+    HOLDS(answers(hall_edit_list(4, list, 33, HALL_TABLES(t)), HALL_BAD_TABLES, 0, 0, 0));
+}
+
 /* All links of the largest hall make the longest image. */
 static void longest_image(void)
 {
@@ -219,6 +276,7 @@ int main(void)
     most_ways();
     ways_in_16_bits();
     reversed();
+    listed();
     longest_image();
     return wrong != 0;
 }

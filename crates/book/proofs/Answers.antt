@@ -4,10 +4,10 @@ use mathlib.Core.Path.{_≡_, refl, _∙_, ap}
 use mathlib.Core.Bool.{Bool, true, false, cond}
 use mathlib.Core.List.{List, []}
 use Rattle.book.specs.Hall.{Tables}
-use Rattle.book.specs.Call.{Ask, emptyHall, audit, workOut, edit, imageWrite, imageRead, Call, accepted, Answer, plain, Rule, rule, reply, refusal, answer, Done}
+use Rattle.book.specs.Call.{Ask, emptyHall, audit, workOut, edit, editList, imageWrite, imageRead, Call, accepted, Answer, refusedAt, Rule, rule, reply, refusal, answer, Done}
 use Rattle.book.specs.Book.{Book, bookRefusal, bookAnswer}
 use Rattle.book.specs.declared.Refusal.{Refusal}
-use Rattle.book.specs.declared.Refusal.the-variants.{Accepted, BadSize, BadLength, BadTables, BadStop, BadCost, LinkPresent, LinkAbsent, CostWrongSide, BadImage, ShortBuffer, TooManyWays}
+use Rattle.book.specs.declared.Refusal.the-variants.{Accepted, BadSize, BadLength, BadTables, BadStop, BadCost, LinkPresent, LinkAbsent, CostWrongSide, BadImage, ShortBuffer, TooManyWays, ListTooLong}
 
 -- an accepted call says so
 says-accepted : (n : ℕ) (ask : Ask) (cost : List ℕ) → rule n ask cost .says .refusal ≡ Accepted
@@ -16,6 +16,7 @@ says-accepted n emptyHall cost = refl
 says-accepted n audit cost = refl
 says-accepted n (workOut c) cost = refl
 says-accepted n (edit e) cost = refl
+says-accepted n (editList edits) cost = refl
 says-accepted n (imageWrite buffer) cost = refl
 says-accepted n (imageRead image) cost = refl
 
@@ -33,6 +34,7 @@ reply-refusal CostWrongSide x e = refl
 reply-refusal BadImage x e = refl
 reply-refusal ShortBuffer x e = refl
 reply-refusal TooManyWays x e = refl
+reply-refusal ListTooLong x e = refl
 
 -- the answer of a call, of the book, and of a call that was made
 pub answer-refusal : (c : Call) (t : Tables) → answer c t .refusal ≡ refusal c t
@@ -46,9 +48,9 @@ book-refusal c b = reply-refusal (bookRefusal c b) (rule (c .n) (c .ask) (b .lin
 pub done-refusal : (c : Call) (t : Tables) {t′ : Tables} {a : Answer} → Done c t t′ a → a .refusal ≡ refusal c t
 done-refusal c t d = ap (λ a. a .refusal) (d .answered) ∙ answer-refusal c t
 
--- only an edit names sources and tells a cost before, and only an image write writes bytes
+-- only a list tells a place, only an edit and a list name sources, only an edit tells a cost before, and only an image write writes bytes
 abbrev pub NoSet : Answer → Type 0
-NoSet a = (a .touched ≡ 0) × (a .rows ≡ 0) × (a .before ≡ 0)
+NoSet a = (a .place ≡ 0) × (a .touched ≡ 0) × (a .rows ≡ 0) × (a .before ≡ 0)
 
 abbrev pub NoBytes : Answer → Type 0
 NoBytes a = (a .length ≡ 0) × (a .buffer ≡ [])
@@ -57,15 +59,16 @@ unfoldable pub Parts : Ask → Answer → Type 0
 Parts emptyHall a = NoSet a × NoBytes a
 Parts audit a = NoSet a × NoBytes a
 Parts (workOut cost) a = NoSet a × NoBytes a
-Parts (edit e) a = NoBytes a
+Parts (edit e) a = (a .place ≡ 0) × NoBytes a
+Parts (editList edits) a = (a .before ≡ 0) × NoBytes a
 Parts (imageWrite buffer) a = NoSet a
 Parts (imageRead image) a = NoSet a × NoBytes a
 
--- what holds of what an accepted call says and of a refusal alone holds of its answer
-pub reply-either : (P : Answer → Type 0) (r : Refusal) (x : Rule) → (accepted r ≡ true → P (x .says)) → P (plain r (x .lentBuffer)) → P (reply r x)
+-- what holds of what an accepted call says and of a refusal with its place holds of its answer
+pub reply-either : (P : Answer → Type 0) (r : Refusal) (x : Rule) → (accepted r ≡ true → P (x .says)) → P (refusedAt r (x .place r) (x .lentBuffer)) → P (reply r x)
 reply-either P r x said refused = go (accepted r) refl
   where
-    go : (b : Bool) → accepted r ≡ b → P (cond b (x .says) (plain r (x .lentBuffer)))
+    go : (b : Bool) → accepted r ≡ b → P (cond b (x .says) (refusedAt r (x .place r) (x .lentBuffer)))
     go true ok = said ok
     go false ok = refused
 
@@ -75,17 +78,19 @@ unfolding answer Parts rule
 answer-parts c t = reply-either (Parts (c .ask)) (refusal c t) (rule (c .n) (c .ask) (t .cost)) (λ ok. said (c .ask)) (alone (c .ask))
   where
     said : (ask : Ask) → Parts ask (rule (c .n) ask (t .cost) .says)
-    said emptyHall = ((refl, refl, refl), (refl, refl))
-    said audit = ((refl, refl, refl), (refl, refl))
-    said (workOut cost) = ((refl, refl, refl), (refl, refl))
-    said (edit e) = (refl, refl)
-    said (imageWrite buffer) = (refl, refl, refl)
-    said (imageRead image) = ((refl, refl, refl), (refl, refl))
+    said emptyHall = ((refl, refl, refl, refl), (refl, refl))
+    said audit = ((refl, refl, refl, refl), (refl, refl))
+    said (workOut cost) = ((refl, refl, refl, refl), (refl, refl))
+    said (edit e) = (refl, (refl, refl))
+    said (editList edits) = (refl, (refl, refl))
+    said (imageWrite buffer) = (refl, refl, refl, refl)
+    said (imageRead image) = ((refl, refl, refl, refl), (refl, refl))
 
-    alone : (ask : Ask) → Parts ask (plain (refusal c t) (rule (c .n) ask (t .cost) .lentBuffer))
-    alone emptyHall = ((refl, refl, refl), (refl, refl))
-    alone audit = ((refl, refl, refl), (refl, refl))
-    alone (workOut cost) = ((refl, refl, refl), (refl, refl))
-    alone (edit e) = (refl, refl)
-    alone (imageWrite buffer) = (refl, refl, refl)
-    alone (imageRead image) = ((refl, refl, refl), (refl, refl))
+    alone : (ask : Ask) → Parts ask (refusedAt (refusal c t) (rule (c .n) ask (t .cost) .place (refusal c t)) (rule (c .n) ask (t .cost) .lentBuffer))
+    alone emptyHall = ((refl, refl, refl, refl), (refl, refl))
+    alone audit = ((refl, refl, refl, refl), (refl, refl))
+    alone (workOut cost) = ((refl, refl, refl, refl), (refl, refl))
+    alone (edit e) = (refl, (refl, refl))
+    alone (editList edits) = (refl, (refl, refl))
+    alone (imageWrite buffer) = (refl, refl, refl, refl)
+    alone (imageRead image) = ((refl, refl, refl, refl), (refl, refl))

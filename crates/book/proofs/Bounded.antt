@@ -16,8 +16,8 @@ use Rattle.routes.proofs.Times.{least-bound}
 use Rattle.routes.proofs.Flows.{flows}
 use Rattle.routes.proofs.Bounds.{score-limit}
 use Rattle.book.specs.Hall.{Tables, mostStops, largestCost, mostWays, scale, entry, filled, uncrowded}
-use Rattle.book.specs.Call.{Call, Answer, refusal, Done}
-use Rattle.book.specs.Book.{Step, run, kept, Sequence, Started}
+use Rattle.book.specs.Call.{Call, run, Answer, refusal, Done}
+use Rattle.book.specs.Book.{Step, kept, Sequence, Started}
 use Rattle.book.specs.declared.Refusal.the-variants.{Accepted}
 use Rattle.book.proofs.Tables.{entry-table, valid-costs}
 use Rattle.book.proofs.Answers.{done-refusal}

@@ -44,7 +44,7 @@ one-stop e =
     (edit-alone e (filled scale 1 (0 ∷ []) .cost))
 
 -- accepted or refused, an audit and an image write leave the tables
-leaves-tables : (c : Call) (t : Tables) → let r : Rule = rule (c .n) (c .ask) (t .cost) in
+pub leaves-tables : (c : Call) (t : Tables) → let r : Rule = rule (c .n) (c .ask) (t .cost) in
     r .leaves ≡ t .cost → r .sound t ≡ right scale mostWays (c .n) t → after c t ≡ t
 unfolding after refusal
 leaves-tables c t same audits = rw same (go (accepted (refusal c t)) refl)

@@ -8,9 +8,10 @@ use lib.ListN.{replicate, drop}
 use lib.Dec.{eqb}
 use Rattle.routes.specs.Route.{mark, sumTo, joinTo, listTo, allTo, same, setOf, count, visits, uses, time, least, extend, hops, routes, leastTime, quickest, ways, through, portion, share, used, score}
 use Rattle.book.specs.Hall.{Tables, mostStops, largestCost, mostWays, scale, filled, sized, validCosts, uncrowded, right, touched, lowFirst, field, imageOf, validRecord, isImage, costsOf}
-use Rattle.book.specs.Call.{Call, Ask, emptyHall, audit, workOut, edit, number, rule, Answer, refusal, after, answer, reversal}
-use Rattle.book.specs.Book.{run, Step, kept, noLinks, bookRefusal, bookAfter, bookAnswer, bookAnswers}
+use Rattle.book.specs.Call.{Call, Ask, emptyHall, audit, workOut, edit, editList, number, run, touchedBy, judged, rule, Answer, refusal, after, answer, reversal}
+use Rattle.book.specs.Book.{Step, kept, noLinks, bookRefusal, bookAfter, bookAnswer, bookAnswers}
 use Rattle.book.proofs.Sequence.{stepsOf}
+use Rattle.book.specs.declared.Edit.{Edit}
 use Rattle.book.specs.declared.Kind.{Kind}
 use Rattle.book.specs.declared.Kind.the-variants.{Insert, Cheapen, Raise, Delete}
 use Rattle.book.specs.declared.Refusal.the-variants.{Accepted}
@@ -60,9 +61,12 @@ holds c =
     let are : (Answer → ℕ) → List ℕ → Bool = λ part l. same (map part said) l in
     are (λ a. number (a .refusal)) (c .refusals) && (are (λ a. a .rows) (c .rows) && (are (λ a. a .before) (c .costsBefore) && same scores (c .scores)))
 
--- an edit of the link u to v
+-- an edit of the link u to v, and the call that makes it
+abbrev pub editOf : Kind → (u v cost : ℕ) → Edit
+editOf kind u v cost = record { kind = kind; u = u; v = v; cost = cost }
+
 abbrev pub change : Kind → (u v cost : ℕ) → Ask
-change kind u v cost = edit (record { kind = kind; u = u; v = v; cost = cost })
+change kind u v cost = edit (editOf kind u v cost)
 
 -- the edits of document 01's example
 abbrev pub diamond : List Ask
@@ -135,6 +139,31 @@ pub reversed-so :
     (after back (after c t) ≡ t) × (a .refusal ≡ Accepted) × (a .touched ≡ 5) × (a .before ≡ 4)
 unfolding sumTo joinTo listTo allTo same setOf count visits uses time least extend hops routes leastTime quickest ways through portion share used score filled sized validCosts uncrowded right touched rule refusal after answer run stepsOf
 reversed-so = (refl, refl, refl, refl, refl, refl)
+
+-- a list whose second edit takes back its first: the rows of 0 and 2 are in the union, and all five tables are as they were
+pub list-back :
+    let t : Tables = filled scale 4 even in
+    let c : Call = record { n = 4; ask = editList (editOf Cheapen 2 3 4 ∷ editOf Raise 2 3 5 ∷ []) } in
+    let a : Answer = answer c t in
+    (a .refusal ≡ Accepted) × (a .place ≡ 0) × (a .touched ≡ 5) × (a .rows ≡ 2) × (after c t ≡ t)
+unfolding sumTo joinTo listTo allTo same setOf count visits uses time least extend hops routes leastTime quickest ways through portion share used score filled sized validCosts uncrowded right touched touchedBy judged rule refusal after answer run
+list-back = (refl, refl, refl, refl, refl)
+
+-- lists in the book: the hall of P1 in one go; then refused at the second edit, though the first is accepted, and at the first, which its
+-- successors would have helped; one with as many edits as a list may have, and one with one more; and one of none
+pub lists-run :
+    let diamond-list : List Edit = editOf Insert 0 1 5 ∷ editOf Insert 0 2 5 ∷ editOf Insert 1 3 5 ∷ editOf Insert 2 3 5 ∷ [] in
+    let to-and-fro : List Edit = editOf Insert 3 0 1 ∷ editOf Delete 3 0 9 ∷ [] in
+    let asks : List Ask =
+    editList diamond-list ∷ editList (editOf Cheapen 2 3 4 ∷ editOf Insert 0 1 4 ∷ []) ∷ editList (editOf Delete 3 2 0 ∷ editOf Insert 3 2 1 ∷ []) ∷
+    editList (joinTo 16 (λ i. to-and-fro)) ∷ editList (editOf Delete 0 1 0 ∷ joinTo 16 (λ i. to-and-fro)) ∷ editList [] ∷ [] in
+    let calls : List Call = map (λ a. record { n = 4; ask = a }) asks in
+    let said : List Answer = bookAnswers calls (noLinks 4) in
+    (map (λ a. number (a .refusal)) said ≡ 0 ∷ 6 ∷ 7 ∷ 0 ∷ 12 ∷ 0 ∷ []) × (map (λ a. a .place) said ≡ 0 ∷ 2 ∷ 1 ∷ 0 ∷ 0 ∷ 0 ∷ []) ×
+    (map (λ a. a .touched) said ≡ 7 ∷ 0 ∷ 0 ∷ 14 ∷ 0 ∷ 0 ∷ []) × (map (λ a. a .rows) said ≡ 3 ∷ 0 ∷ 0 ∷ 3 ∷ 0 ∷ 0 ∷ []) ×
+    (run bookAfter calls (noLinks 4) .links ≡ even)
+unfolding sumTo joinTo listTo allTo same setOf count visits uses time least extend hops routes leastTime quickest ways through portion share used score filled sized validCosts uncrowded right touched touchedBy judged rule bookRefusal bookAfter bookAnswer bookAnswers run
+lists-run = (refl, refl, refl, refl, refl)
 
 -- the sets of touched sources of raises in the book, a refused one among them and one of a link that no quickest route uses, and the
 -- links that they leave

@@ -5,8 +5,9 @@ use mathlib.Core.List.{List, []}
 use Prim.Native.Nat.{ℕ}
 use Rattle.book.specs.Hall.{Tables}
 use Rattle.book.specs.Call.{Answer}
-use Rattle.book.specs.Contract.{Param, found, left, leftBeside, ofRefusal, ofEdit, ofWrite}
+use Rattle.book.specs.Contract.{Param, found, left, leftBeside, ofRefusal, ofEdit, ofList, ofWrite}
 use Rattle.book.specs.declared.EditAnswer.{EditAnswer}
+use Rattle.book.specs.declared.ListAnswer.{ListAnswer}
 use Rattle.book.specs.declared.WriteAnswer.{WriteAnswer}
 use Rattle.book.specs.declared.Refusal.{Refusal}
 
@@ -25,15 +26,18 @@ module _ (cost time ways share score : Param) where
   beside-so = (refl, refl, refl, refl, refl)
 
 -- the answer has these parts, in the order of the record
-abbrev Says : Answer → Refusal → (touched rows before length : ℕ) → (buffer : List ℕ) → Type 0
-Says a refusal touched rows before length buffer =
-    (a .refusal ≡ refusal) × (a .touched ≡ touched) × (a .rows ≡ rows) × (a .before ≡ before) × (a .length ≡ length) × (a .buffer ≡ buffer)
+abbrev Says : Answer → Refusal → (place touched rows before length : ℕ) → (buffer : List ℕ) → Type 0
+Says a refusal place touched rows before length buffer =
+    (a .refusal ≡ refusal) × (a .place ≡ place) × (a .touched ≡ touched) × (a .rows ≡ rows) × (a .before ≡ before) × (a .length ≡ length) × (a .buffer ≡ buffer)
 
-pub refusal-so : (r : Refusal) → Says (ofRefusal r) r 0 0 0 0 []
-refusal-so r = (refl, refl, refl, refl, refl, refl)
+pub refusal-so : (r : Refusal) → Says (ofRefusal r) r 0 0 0 0 0 []
+refusal-so r = (refl, refl, refl, refl, refl, refl, refl)
 
-pub edit-so : (a : EditAnswer) → Says (ofEdit a) (a .refusal) (a .touched) (a .rows) (a .before) 0 []
-edit-so a = (refl, refl, refl, refl, refl, refl)
+pub edit-so : (a : EditAnswer) → Says (ofEdit a) (a .refusal) 0 (a .touched) (a .rows) (a .before) 0 []
+edit-so a = (refl, refl, refl, refl, refl, refl, refl)
 
-pub write-so : (a : WriteAnswer) (buffer : List ℕ) → Says (ofWrite a buffer) (a .refusal) 0 0 0 (a .length) buffer
-write-so a buffer = (refl, refl, refl, refl, refl, refl)
+pub list-so : (a : ListAnswer) → Says (ofList a) (a .refusal) (a .place) (a .touched) (a .rows) 0 0 []
+list-so a = (refl, refl, refl, refl, refl, refl, refl)
+
+pub write-so : (a : WriteAnswer) (buffer : List ℕ) → Says (ofWrite a buffer) (a .refusal) 0 0 0 0 (a .length) buffer
+write-so a buffer = (refl, refl, refl, refl, refl, refl, refl)

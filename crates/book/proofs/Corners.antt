@@ -8,10 +8,11 @@ use lib.ListN.{replicate, take, drop}
 use lib.Dec.{eqb}
 use Rattle.routes.specs.Route.{mark, sumTo, joinTo, listTo, allTo, same, setOf, count, visits, uses, time, least, extend, hops, routes, leastTime, quickest, ways, through, portion, share, used, score}
 use Rattle.book.specs.Hall.{Tables, scale, filled, sized, validCosts, uncrowded, right, touched, lowFirst, field, imageOf, validRecord, isImage, costsOf}
-use Rattle.book.specs.Call.{Call, Ask, emptyHall, audit, workOut, imageWrite, imageRead, number, rule, Answer, refusal, after, answer, imageCheck}
-use Rattle.book.specs.Book.{noLinks, run, bookRefusal, bookAfter, bookAnswer, bookAnswers}
+use Rattle.book.specs.Call.{Call, Ask, emptyHall, audit, workOut, editList, imageWrite, imageRead, number, run, touchedBy, judged, rule, Answer, refusal, after, answer, imageCheck}
+use Rattle.book.specs.Book.{noLinks, bookRefusal, bookAfter, bookAnswer, bookAnswers}
 use Rattle.book.proofs.Refused.{bufferOf}
-use Rattle.book.proofs.Cases.{change}
+use Rattle.book.proofs.Cases.{editOf, change}
+use Rattle.book.specs.declared.Edit.{Edit}
 use Rattle.book.specs.declared.Kind.the-variants.{Insert, Cheapen, Raise, Delete}
 
 -- the one-way line of three stops, each link of cost 1, and its image
@@ -76,6 +77,10 @@ answersSo k =
     let stays : Bool = same (flat (after c (k .tables))) (flat (k .tables)) && same (a .buffer) (bufferOf c (k .tables)) in
     eqb (number (a .refusal)) (k .number) && (eqb (k .number) 0 || (empty && stays))
 
+-- an edit between no two stops
+abbrev pub nowhere : Edit
+nowhere = editOf Insert 3 3 0
+
 abbrev pub corners : List Corner
 corners =
     -- empty hall: any content, but these lengths
@@ -96,6 +101,10 @@ corners =
     corner 3 line (change Cheapen 0 1 65536) 5 ∷ corner 3 line (change Raise 0 1 0) 5 ∷ corner 3 line (change Raise 0 1 1) 8 ∷ corner 3 line (change Raise 0 1 2) 0 ∷
     corner 3 damaged (change Raise 3 3 0) 3 ∷ corner 3 short (change Raise 0 1 2) 2 ∷
     corner 3 line (change Delete 0 2 4) 7 ∷ corner 3 line (change Delete 1 1 4) 4 ∷ corner 3 line (change Delete 0 1 65536) 0 ∷ corner 3 short (change Delete 0 1 1) 2 ∷
+    -- a list: 1, 2 and 3 of the tables even if it is empty or too long, 12 before its edits, and these in turn
+    corner 3 line (editList []) 0 ∷ corner 0 line (editList []) 1 ∷ corner 3 short (editList []) 2 ∷ corner 3 damaged (editList (replicate 33 nowhere)) 3 ∷
+    corner 3 line (editList (replicate 33 nowhere)) 12 ∷ corner 3 line (editList (replicate 32 nowhere)) 4 ∷
+    corner 3 line (editList (editOf Delete 0 1 0 ∷ editOf Raise 0 1 2 ∷ [])) 7 ∷ corner 3 line (editList (editOf Delete 0 1 0 ∷ editOf Insert 0 1 2 ∷ [])) 0 ∷
     -- image write: a buffer that fits, one byte short, and tables that do not belong to their hall
     corner 3 line (imageWrite (replicate 16 7)) 0 ∷ corner 3 line (imageWrite (replicate 15 7)) 10 ∷ corner 3 damaged (imageWrite (replicate 16 7)) 3 ∷
     corner 3 damaged (imageWrite []) 3 ∷
@@ -104,8 +113,8 @@ corners =
     corner 3 line (imageRead (0 ∷ 1 ∷ 1 ∷ 0 ∷ 0 ∷ 1 ∷ drop 6 lineImage)) 9 ∷ corner 3 line (imageRead (0 ∷ 1 ∷ 0 ∷ drop 3 lineImage)) 9 ∷
     corner 3 line (imageRead (take 8 lineImage ++ (2 ∷ drop 9 lineImage))) 9 ∷ []
 
-pub corners-hold : map answersSo corners ≡ replicate 54 true
-unfolding answersSo sumTo joinTo listTo allTo same setOf count visits uses time least extend hops routes leastTime quickest ways through portion share used score filled sized validCosts uncrowded right touched lowFirst field imageOf validRecord isImage costsOf rule refusal after answer
+pub corners-hold : map answersSo corners ≡ replicate 62 true
+unfolding answersSo sumTo joinTo listTo allTo same setOf count visits uses time least extend hops routes leastTime quickest ways through portion share used score filled sized validCosts uncrowded right touched touchedBy judged lowFirst field imageOf validRecord isImage costsOf run rule refusal after answer
 corners-hold = refl
 
 -- what accepted calls leave on these tables: no links, the costs brought, those of the image, those of the edit; and the tables as they were
@@ -129,6 +138,14 @@ pub book-images :
     (map (λ a. a .buffer) said ≡ [] ∷ replicate 15 7 ∷ (lineImage ++ (7 ∷ 7 ∷ [])) ∷ []) × (run bookAfter calls (noLinks 3) .links ≡ lineCosts)
 unfolding sumTo joinTo listTo allTo count visits time least extend hops routes leastTime quickest ways validCosts uncrowded lowFirst field imageOf validRecord isImage costsOf rule bookRefusal bookAfter bookAnswer bookAnswers run
 book-images = (refl, refl, refl, refl)
+
+-- the place that a refused list tells: none for 1, 2, 3 and 12, though its first edit would be refused too
+pub places-so :
+    let place : ℕ → Tables → List Edit → ℕ = λ n t edits. answer (record { n = n; ask = editList edits }) t .place in
+    (place 0 line (nowhere ∷ []) ≡ 0) × (place 3 short (nowhere ∷ []) ≡ 0) × (place 3 damaged (nowhere ∷ []) ≡ 0) × (place 3 line (replicate 33 nowhere) ≡ 0) ×
+    (place 3 line (replicate 32 nowhere) ≡ 1) × (place 3 line (editOf Delete 0 1 0 ∷ nowhere ∷ []) ≡ 2)
+unfolding sumTo joinTo listTo allTo same setOf count visits uses time least extend hops routes leastTime quickest ways through portion share used score filled sized validCosts uncrowded right touched touchedBy judged run rule refusal answer
+places-so = (refl, refl, refl, refl, refl, refl)
 
 -- image check answers 0, 1 and 9
 pub checks-so :

@@ -9,10 +9,11 @@ use lib.ListN.{replicate, take, drop}
 use lib.Dec.{eqb}
 use Rattle.routes.specs.Route.{sumTo, joinTo, listTo, allTo, count, visits, time, least, extend, hops, routes, leastTime, quickest, ways, through, portion, share, score}
 use Rattle.book.specs.Hall.{mostWays, scale, table, entry, filled, validCosts, uncrowded, lowFirst, field, imageOf, validRecord, isImage, costsOf}
-use Rattle.book.specs.Call.{Ask, audit, workOut, imageRead, Call, number, rule, refusal, imageCheck}
-use Rattle.book.specs.Book.{bookRefusal, bookAfter, bookAnswer, noLinks, run, bookAnswers}
+use Rattle.book.specs.Call.{Ask, audit, workOut, editList, imageRead, Call, Answer, number, run, withEdits, judged, rule, refusal, imageCheck}
+use Rattle.book.specs.Book.{Book, bookRefusal, bookAfter, bookAnswer, noLinks, bookAnswers}
 use Rattle.book.proofs.Steps.{refusal-book}
-use Rattle.book.proofs.Cases.{change}
+use Rattle.book.proofs.Cases.{editOf, change}
+use Rattle.book.specs.declared.Edit.{Edit}
 use Rattle.book.specs.declared.Refusal.the-variants.{TooManyWays}
 use Rattle.book.specs.declared.Kind.the-variants.{Insert, Cheapen, Raise, Delete}
 
@@ -63,6 +64,17 @@ pub crowded-told :
     (told one ≡ 0 ∷ 11 ∷ 0 ∷ 11 ∷ 6 ∷ 8 ∷ 0 ∷ []) × (left one ≡ quicker 5)
 unfolding sumTo joinTo listTo allTo count visits time least extend hops routes leastTime quickest ways validCosts uncrowded lowFirst field imageOf validRecord isImage costsOf rule bookRefusal bookAfter bookAnswer bookAnswers run
 crowded-told = (refl, refl, refl, refl, refl, refl)
+
+-- a list that would leave the hall with a link of 5 is refused at its second edit: without the link
+-- there are 31 ways in passing
+pub crowded-passing :
+    let edits : List Edit = editOf Raise 0 6 5 ∷ editOf Delete 0 6 0 ∷ editOf Insert 0 6 5 ∷ [] in
+    let b : Book = record { stops = 7; links = quicker 4 } in
+    let a : Answer = bookAnswer (record { n = 7; ask = editList edits }) b in
+    (number (a .refusal) ≡ 11) × (a .place ≡ 2) × (bookAfter (record { n = 7; ask = editList edits }) b .links ≡ quicker 4) ×
+    (withEdits 7 edits (quicker 4) ≡ quicker 5)
+unfolding sumTo joinTo listTo allTo count visits time least extend hops routes leastTime quickest ways validCosts uncrowded judged rule bookRefusal bookAfter bookAnswer run
+crowded-passing = (refl, refl, refl, refl)
 
 -- the same of tables: the delete on those of the last hall
 pub crowded-delete : refusal (record { n = 7; ask = change Delete 0 6 0 }) (filled scale 7 (quicker 5)) ≡ TooManyWays

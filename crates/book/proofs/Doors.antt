@@ -4,13 +4,13 @@ use mathlib.Core.Path.{_≡_, refl, sym, _∙_, ap}
 use mathlib.Core.Bool.{Bool, true, false, _&&_, and-false}
 use Rattle.routes.proofs.Booleans.{both}
 use Rattle.book.specs.Hall.{Tables, mostStops, mostWays, scale, upTo, filled, sized, right}
-use Rattle.book.specs.Call.{Call, audit, accepted, need, Answer, plain, Rule, rule, chain, refusal, after, answer, Done}
+use Rattle.book.specs.Call.{Call, audit, accepted, need, Answer, refusedAt, Rule, rule, chain, refusal, after, answer, Done}
 use Rattle.book.specs.Contract.{ofRefusal, doorTests, Inside, Audited}
 use Rattle.book.specs.declared.Refusal.{Refusal}
 use Rattle.book.specs.declared.Refusal.the-variants.{Accepted, BadSize, BadLength, BadTables}
 use Rattle.book.proofs.Answers.{done-refusal}
 use Rattle.book.proofs.Passed.{chain-true}
-use Rattle.book.proofs.Refused.{bufferOf, refused-done}
+use Rattle.book.proofs.Refused.{bufferOf, placeOf, refused-done}
 
 -- the door lets in what it should
 pub door-passed : (n : ℕ) (t : Tables) {r : Refusal} → r ≡ doorTests n t → accepted r ≡ true → Inside n t
@@ -45,7 +45,7 @@ module _ (c : Call) (t : Tables) (fits : sized (c .n) t ≡ true → rule (c .n)
       go true false f shut = rw (and-false (r .fits))
       go true true f shut = absurd (both refl shut)
 
-  pub door-refused : (x : Refusal) → x ≡ doorTests (c .n) t → accepted x ≡ false → Done c t t (plain x (bufferOf c t))
+  pub door-refused : (x : Refusal) → x ≡ doorTests (c .n) t → accepted x ≡ false → Done c t t (refusedAt x (placeOf c t x) (bufferOf c t))
   door-refused x e shut = refused-done c t x (at-door (ap accepted (sym e) ∙ shut) ∙ sym e) shut
 
   -- behind the door come 3 and its own tests
@@ -55,7 +55,7 @@ module _ (c : Call) (t : Tables) (fits : sized (c .n) t ≡ true → rule (c .n)
 
   -- one that audits is refused as the audit refuses
   module _ (audits : r .sound t ≡ right scale mostWays (c .n) t) where
-    pub audit-refused : {t′ : Tables} (x : Refusal) → Done (record { n = c .n; ask = audit }) t t′ (ofRefusal x) → accepted x ≡ false → Done c t t (plain x (bufferOf c t))
+    pub audit-refused : {t′ : Tables} (x : Refusal) → Done (record { n = c .n; ask = audit }) t t′ (ofRefusal x) → accepted x ≡ false → Done c t t (refusedAt x (placeOf c t x) (bufferOf c t))
     unfolding refusal
     audit-refused x d shut = refused-done c t x (rw audits (go (upTo mostStops (c .n)) (sized (c .n) t) (right scale mostWays (c .n) t) fits (ap accepted (sym told) ∙ shut)) ∙ sym told) shut
       where

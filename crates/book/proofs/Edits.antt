@@ -1,17 +1,13 @@
 -- An accepted edit: its set of touched sources, the rows that change, and how the scores move. Assumes nothing.
-use Prim.Native.Nat.{ℕ, zero, suc, _+_, _<_, _≤_}
+use Prim.Native.Nat.{ℕ, _<_, _≤_}
 use mathlib.Core.Path.{_≡_, refl, sym, _∙_, ap}
-use mathlib.Core.Logic.{_≢_, ⊎-elim}
-use mathlib.Core.Bool.{Bool, true, false, cond, not, and-eq-true-iff}
+use mathlib.Core.Logic.{_≢_}
+use mathlib.Core.Bool.{Bool, true, not}
 use mathlib.Core.List.{List}
-use native.Mathlib.Nat.{eq-or-lt-of-le}
 use native.Mathlib.Omega.{arith}
-use lib.Dec.{eqb, leb}
-use borrow.Author.Tests.{eqb-true, eq-eqb, leb-true, le-ltb, lt-ltb, not-false}
-use Rattle.routes.specs.Route.{Costs, sumTo, allTo, setOf, has, leastTime, ways, share, score}
-use Rattle.routes.proofs.Sums.{sumTo-cong, sumTo-split, all-true, all-cong}
-use Rattle.routes.proofs.Bits.{has-setOf}
-use Rattle.routes.proofs.Rows.{getD-listTo}
+use borrow.Author.Tests.{eq-eqb}
+use Rattle.routes.specs.Route.{Costs, allTo, leastTime, ways, share}
+use Rattle.routes.proofs.Sums.{all-cong}
 use Rattle.routes.proofs.Touched.{sameEntries, touched-row}
 use Rattle.book.specs.Hall.{mostStops, largestCost, scale, table, entry, filled, touched}
 use Rattle.book.specs.Call.{Call, edit, accepted, costSet, withEdit, rule, refusal, after, answer}
@@ -19,28 +15,10 @@ use Rattle.book.specs.Book.{Book, EditFacts, changed}
 use Rattle.book.specs.declared.Edit.{Edit}
 use Rattle.book.specs.declared.Refusal.the-variants.{Accepted}
 use Rattle.book.proofs.Tables.{entry-table, only-set, valid-costs}
-use Rattle.book.proofs.Passed.{Permitted, permitted}
+use Rattle.book.proofs.Passed.{up-to, Permitted, permitted}
 use Rattle.book.proofs.Steps.{Held, entry-edited, held-edited, tablesOf, accepted-book, refusal-book}
 use Rattle.book.proofs.Reversals.{rule-reversed}
-
--- a sum whose members are 0 from n on
-sumTo-beyond : (m n : ℕ) {f : ℕ → ℕ} → n ≤ m → ((i : ℕ) → n ≤ i → f i ≡ 0) → sumTo m f ≡ sumTo n f
-unfolding sumTo
-sumTo-beyond zero n h z =
-    let none : n ≡ 0 = omega arith in
-    rw none
-sumTo-beyond (suc m) n {f} h z =
-    ⊎-elim (λ e. rw e) (λ l. let k : n ≤ m = omega arith in omega (arith, sumTo-beyond m n {f = f} k z, z m k)) (eq-or-lt-of-le h)
-
--- a sum moves by what the members with the property p move, where the others stay
-sumTo-move : (n : ℕ) (p : ℕ → Bool) (f g : ℕ → ℕ) → ((i : ℕ) → i < n → p i ≡ false → f i ≡ g i) →
-    sumTo n g + sumTo n (λ i. cond (p i) (f i) 0) ≡ sumTo n f + sumTo n (λ i. cond (p i) (g i) 0)
-sumTo-move n p f g stay =
-    omega (arith, sumTo-split n p f, sumTo-split n p g, sumTo-cong n (λ i l. other i (p i) (stay i l)))
-  where
-    other : (i : ℕ) (b : Bool) → (b ≡ false → f i ≡ g i) → cond b 0 (f i) ≡ cond b 0 (g i)
-    other i true h = refl
-    other i false h = h refl
+use Rattle.book.proofs.Sets.{member, set-facts}
 
 module _ (n : ℕ) (e : Edit) (cost : List ℕ) (h : Held n cost) (ok : accepted (rule n (edit e) cost .tests) ≡ true) where
   p : Permitted n e cost
@@ -68,7 +46,7 @@ module _ (n : ℕ) (e : Edit) (cost : List ℕ) (h : Held n cost) (ok : accepted
   stays s = sameEntries W W′ n s scale
 
   few : n ≤ mostStops
-  few = leb-true n mostStops (and-eq-true-iff (leb 1 n) (leb n mostStops) .0 (h .size) .1)
+  few = up-to mostStops n (h .size) .1
 
   -- the cost of the edited link differs, and no other
   differs : W u v ≢ W′ u v
@@ -86,7 +64,7 @@ module _ (n : ℕ) (e : Edit) (cost : List ℕ) (h : Held n cost) (ok : accepted
       touched-row W W′ n s largestCost hs most most′ (omega (arith, few)) u v (p .from) (p .to) differs others scale
 
   -- which are those whose row of the tables changes
-  row-changed : (s : ℕ) → s < n → changed n (filled scale n cost) (filled scale n left) s ≡ touches s
+  pub row-changed : (s : ℕ) → s < n → changed n (filled scale n cost) (filled scale n left) s ≡ touches s
   unfolding changed filled
   row-changed s hs = ap not (all-cong n (λ x hx. rw (
     at (leastTime W n) x hx,
@@ -100,39 +78,15 @@ module _ (n : ℕ) (e : Edit) (cost : List ℕ) (h : Held n cost) (ok : accepted
       at : (f : ℕ → ℕ → ℕ) (x : ℕ) → x < n → entry n (table n f) s x ≡ f s x
       at f x hx = entry-table n f s x hs hx
 
-  share-stays : (s x : ℕ) → s < n → x < n → touches s ≡ false → share W n s scale x ≡ share W′ n s scale x
-  share-stays s x hs hx away =
-      let same : stays s x ≡ true = all-true n (stays s) (not-false (allTo n (stays s)) (sym (row-touched s hs) ∙ away)) x hx in
-      let rest = and-eq-true-iff (eqb (leastTime W n s x) (leastTime W′ n s x)) _ .0 same .1 in
-      eqb-true (share W n s scale x) (share W′ n s scale x) (and-eq-true-iff (eqb (ways W n s x) (ways W′ n s x)) _ .0 rest .1)
-
-  -- the set of touched sources
-  member : (s : ℕ) → s < n → has (setOf n touches) s ≡ touches s
-  member s hs = has-setOf n touches s ∙ rw (lt-ltb s n hs)
-
-  outside : (s : ℕ) → n ≤ s → has (setOf n touches) s ≡ false
-  outside s hs = has-setOf n touches s ∙ rw (le-ltb s n hs)
-
-  over-touched : (f : ℕ → ℕ → ℕ) (x : ℕ) → x < n →
-      sumTo n (λ s. cond (has (setOf n touches) s) (entry n (table n f) s x) 0) ≡ sumTo n (λ s. cond (touches s) (f s x) 0)
-  over-touched f x hx = sumTo-cong n (λ s hs. rw (member s hs, entry-table n f s x hs hx))
-
   -- the promises of demand 3 for this edit
   edited-rule : EditFacts n e (filled scale n cost) (filled scale n left) (rule n (edit e) cost .says)
-  unfolding filled rule score
-  edited-rule =
-      let shares : ℕ → ℕ → ℕ = λ s. share W n s scale in
-      let shares′ : ℕ → ℕ → ℕ = λ s. share W′ n s scale in
-      record {
-        names = λ s. has-setOf n touches s;
-        counts = sumTo-cong n (λ s hs. rw (member s hs)) ∙ sym (sumTo-beyond 64 n few (λ s hs. rw (outside s hs)));
-        changes = λ s hs. row-changed s hs ∙ sym (member s hs);
-        moves = λ x hx.
-            rw (getD-listTo n (score W n scale) 0 x hx, getD-listTo n (score W′ n scale) 0 x hx, over-touched shares x hx, over-touched shares′ x hx)
-            (sumTo-move n touches (λ s. shares s x) (λ s. shares′ s x) (λ s hs away. share-stays s x hs hx away));
-        tells = refl;
-        reverses = rule-reversed n e cost h ok;
-      }
+  unfolding filled rule
+  edited-rule = record {
+    set = set-facts n touches cost left (entry n cost u v) few (λ s hs away. row-changed s hs ∙ away);
+    changes = λ s hs. row-changed s hs ∙ sym (member n touches s hs);
+    tells = refl;
+    reverses = rule-reversed n e cost h ok;
+  }
 
 -- and for every accepted edit on the tables of a book
 pub edited-book : (c : Call) (b : Book) (e : Edit) → Held (b .stops) (b .links) → c .ask ≡ edit e →

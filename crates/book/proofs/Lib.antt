@@ -10,10 +10,13 @@ pub mod Images
 pub mod NoLinks
 pub mod Filled
 pub mod Passed
+pub mod Places
 pub mod Steps
 pub mod Audits
 pub mod Reversals
+pub mod Sets
 pub mod Edits
+pub mod Lists
 pub mod Sequence
 pub mod Calls
 pub mod Raises

@@ -1,27 +1,44 @@
--- What an accepted call has passed: each test before it, and for an edit two stops and another cost. Assumes nothing.
-use Prim.Native.Nat.{ℕ, zero, suc, _<_, _≤_}
+-- What an accepted call has passed: each test before it, for an edit two stops and another cost, and for a list every edit in its turn.
+-- Assumes nothing.
+use Prim.Native.Nat.{ℕ, zero, suc, _+_, _<_, _≤_}
 use mathlib.Core.Path.{_≡_, refl, ap}
 use mathlib.Core.Logic.{_≢_}
-use mathlib.Core.Bool.{Bool, true, false, not, _&&_, and-eq-true-iff}
-use mathlib.Core.List.{List}
+use mathlib.Core.Bool.{Bool, true, false, cond, not, _&&_, and-eq-true-iff}
+use mathlib.Core.List.{List, _∷_}
 use native.Mathlib.Omega.{arith}
 use lib.Dec.{eqb, ltb, leb}
 use borrow.Author.Tests.{eqb-true, eqb-false, leb-true, ltb-true, le-ltb, not-true}
 use Rattle.routes.proofs.Booleans.{both}
 use Rattle.book.specs.Hall.{Tables, mostStops, largestCost, mostWays, upTo, entry, sized, validPair, uncrowded}
-use Rattle.book.specs.Call.{Call, edit, accepted, need, otherCostTests, costTests, waysTest, costSet, withEdit, Rule, rule, chain, refusal}
+use Rattle.book.specs.Call.{Call, edit, accepted, need, otherCostTests, costTests, waysTest, costSet, withEdit, editRefusal, Verdict, judged, Rule, rule, chain, refusal}
 use Rattle.book.specs.declared.Edit.{Edit}
 use Rattle.book.specs.declared.Kind.{Kind}
 use Rattle.book.specs.declared.Kind.the-variants.{Insert, Cheapen, Raise, Delete}
 use Rattle.book.specs.declared.Refusal.{Refusal}
-use Rattle.book.specs.declared.Refusal.the-variants.{Accepted, BadSize, BadLength, BadTables, BadStop, BadCost, LinkPresent, LinkAbsent, CostWrongSide, TooManyWays}
+use Rattle.book.specs.declared.Refusal.the-variants.{Accepted, BadSize, BadLength, BadTables, BadStop, BadCost, LinkPresent, LinkAbsent, CostWrongSide, BadImage, ShortBuffer, TooManyWays, ListTooLong}
 
 -- a chain of tests accepts where its first test passes and the rest accepts
 pub need-true : (p : Bool) (r next : Refusal) → accepted r ≡ false → accepted (need p r next) ≡ true → (p ≡ true) × (accepted next ≡ true)
 need-true true r next f e = (refl, e)
 need-true false r next f e = absurd (both e f)
 
--- the same for the chain of all tests
+-- what is accepted has one name
+pub accepted-only : (r : Refusal) → accepted r ≡ true → r ≡ Accepted
+accepted-only Accepted e = refl
+accepted-only BadSize e = absurd (both e refl)
+accepted-only BadLength e = absurd (both e refl)
+accepted-only BadTables e = absurd (both e refl)
+accepted-only BadStop e = absurd (both e refl)
+accepted-only BadCost e = absurd (both e refl)
+accepted-only LinkPresent e = absurd (both e refl)
+accepted-only LinkAbsent e = absurd (both e refl)
+accepted-only CostWrongSide e = absurd (both e refl)
+accepted-only BadImage e = absurd (both e refl)
+accepted-only ShortBuffer e = absurd (both e refl)
+accepted-only TooManyWays e = absurd (both e refl)
+accepted-only ListTooLong e = absurd (both e refl)
+
+-- a chain of all tests accepts where each passes
 pub chain-true : (n : ℕ) (lengths sound : Bool) (tests : Refusal) → accepted (chain n lengths sound tests) ≡ true →
     (upTo mostStops n ≡ true) × (lengths ≡ true) × (sound ≡ true) × (accepted tests ≡ true)
 chain-true n lengths sound tests e =
@@ -106,6 +123,20 @@ permitted n e cost ok =
       differs = differs;
       few = need-true (uncrowded mostWays n left) TooManyWays Accepted refl ok₂ .0;
     }
+
+-- an accepted list: its first edit is accepted, and the rest in the hall that it made
+pub judged-true : (n k : ℕ) (e : Edit) (rest : List Edit) (cost : List ℕ) → accepted (judged n k (e ∷ rest) cost .refusal) ≡ true →
+    (accepted (editRefusal n e cost) ≡ true) × (accepted (judged n (k + 1) rest (withEdit n e cost) .refusal) ≡ true)
+unfolding judged
+judged-true n k e rest cost ok = go (accepted (editRefusal n e cost)) refl ok
+  where
+    then : Verdict
+    then = judged n (k + 1) rest (withEdit n e cost)
+
+    go : (b : Bool) → accepted (editRefusal n e cost) ≡ b → accepted (cond b then (record { refusal = editRefusal n e cost; place = k }) .refusal) ≡ true →
+        (accepted (editRefusal n e cost) ≡ true) × (accepted (then .refusal) ≡ true)
+    go true first ok = (first, ok)
+    go false first ok = absurd (both ok first)
 
 -- a hall of one stop has no two: every edit is 4
 pub edit-alone : (e : Edit) (cost : List ℕ) → rule 1 (edit e) cost .tests ≡ BadStop

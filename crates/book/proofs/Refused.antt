@@ -1,10 +1,10 @@
--- A refused call: nothing that it was lent differs after it, and it says its refusal alone. Assumes nothing.
+-- A refused call: nothing that it was lent differs after it, and it says its refusal and, of a list, the place alone. Assumes nothing.
 use Prim.Native.Nat.{ℕ}
 use mathlib.Core.Path.{_≡_, refl, sym, _∙_, ap}
 use mathlib.Core.Bool.{Bool, true, false, cond}
 use mathlib.Core.List.{List}
 use Rattle.book.specs.Hall.{Tables}
-use Rattle.book.specs.Call.{Ask, emptyHall, audit, workOut, edit, imageWrite, imageRead, Call, accepted, Answer, plain, rule, refusal, after, answer, Done}
+use Rattle.book.specs.Call.{Ask, emptyHall, audit, workOut, edit, editList, imageWrite, imageRead, Call, accepted, Answer, refusedAt, rule, refusal, after, answer, Done}
 use Rattle.book.specs.Book.{Step, withCost, lent, kept}
 use Rattle.book.proofs.Answers.{done-refusal}
 use Rattle.book.specs.declared.Edit.{Edit}
@@ -13,6 +13,10 @@ use Rattle.book.specs.declared.Refusal.{Refusal}
 -- the buffer that a call is lent
 abbrev pub bufferOf : Call → Tables → List ℕ
 bufferOf c t = rule (c .n) (c .ask) (t .cost) .lentBuffer
+
+-- the place that a refusal of it tells
+abbrev pub placeOf : Call → Tables → Refusal → ℕ
+placeOf c t r = rule (c .n) (c .ask) (t .cost) .place r
 
 -- tables and buffer as found, an empty set, no rows, no cost before, length 0
 pub record Unchanged (c : Call) (t t′ : Tables) (a : Answer) : Type 0 where
@@ -23,7 +27,7 @@ pub record Unchanged (c : Call) (t t′ : Tables) (a : Answer) : Type 0 where
   pub length : a .length ≡ 0
   pub buffer : a .buffer ≡ bufferOf c t
 
-refused-answer : (c : Call) (t : Tables) → accepted (refusal c t) ≡ false → answer c t ≡ plain (refusal c t) (bufferOf c t)
+refused-answer : (c : Call) (t : Tables) → accepted (refusal c t) ≡ false → answer c t ≡ refusedAt (refusal c t) (placeOf c t (refusal c t)) (bufferOf c t)
 unfolding answer
 refused-answer c t e = rw e
 
@@ -43,9 +47,9 @@ refused-unchanged c t t′ a d closed =
     }
 
 -- and the other way round: this is all that a refused call has to do
-pub refused-done : (c : Call) (t : Tables) (r : Refusal) → refusal c t ≡ r → accepted r ≡ false → Done c t t (plain r (bufferOf c t))
+pub refused-done : (c : Call) (t : Tables) (r : Refusal) → refusal c t ≡ r → accepted r ≡ false → Done c t t (refusedAt r (placeOf c t r) (bufferOf c t))
 unfolding after
-refused-done c t r e f = record { left = rw (e, f); answered = sym (refused-answer c t (rw e f) ∙ ap (λ r. plain r (bufferOf c t)) e) }
+refused-done c t r e f = record { left = rw (e, f); answered = sym (refused-answer c t (rw e f) ∙ ap (λ r. refusedAt r (placeOf c t r) (bufferOf c t)) e) }
 
 -- in a sequence the five tables after it are those before it
 pub refused-kept : (s : Step) (t : Tables) → Done (s .call) (lent (s .call) t) (s .left) (s .answer) → accepted (s .answer .refusal) ≡ false → kept s t ≡ t
@@ -64,9 +68,9 @@ kept-left s t d same = go (accepted (s .answer .refusal)) refl
         rw found
 
 -- every call but work out is lent the five themselves, and work out its own cost table beside four of them; an image write its buffer
-pub lent-all : (n : ℕ) (e : Edit) (cost buffer image : List ℕ) (t : Tables) →
+pub lent-all : (n : ℕ) (e : Edit) (edits : List Edit) (cost buffer image : List ℕ) (t : Tables) →
     let of : Ask → Tables = λ ask. lent (record { n = n; ask = ask }) t in
-    (of emptyHall ≡ t) × (of audit ≡ t) × (of (edit e) ≡ t) × (of (imageWrite buffer) ≡ t) × (of (imageRead image) ≡ t) ×
+    (of emptyHall ≡ t) × (of audit ≡ t) × (of (edit e) ≡ t) × (of (editList edits) ≡ t) × (of (imageWrite buffer) ≡ t) × (of (imageRead image) ≡ t) ×
     (of (workOut cost) ≡ withCost cost t) × (bufferOf (record { n = n; ask = imageWrite buffer }) t ≡ buffer)
 unfolding rule
-lent-all n e cost buffer image t = (refl, refl, refl, refl, refl, refl, refl)
+lent-all n e edits cost buffer image t = (refl, refl, refl, refl, refl, refl, refl, refl)

@@ -10,8 +10,8 @@ use borrow.Author.Tests.{eq-eqb, lt-ltb}
 use Rattle.routes.specs.Route.{sumTo, has}
 use Rattle.routes.proofs.Sums.{sumTo-cong}
 use Rattle.book.specs.Hall.{Tables, mostStops, scale, upTo, entry, filled, sized, touched}
-use Rattle.book.specs.Call.{Call, emptyHall, workOut, edit, rule, refusal, after, answer, Done, reversal}
-use Rattle.book.specs.Book.{Book, bookAfter, noLinks, run, bookAnswers, Step, callsOf, lent, kept, withCost, Sequence, Started, changed, EditFacts, Demand3}
+use Rattle.book.specs.Call.{Call, emptyHall, workOut, edit, editList, run, touchedBy, rule, Answer, refusal, after, answer, Done, reversal}
+use Rattle.book.specs.Book.{Book, bookAfter, noLinks, bookAnswers, Step, callsOf, lent, kept, Sequence, Started, changed, SetFacts, EditFacts, Demand3}
 use Rattle.book.specs.declared.Edit.{Edit}
 use Rattle.book.specs.declared.Refusal.the-variants.{Accepted, BadTables}
 use Rattle.book.proofs.Filled.{sized-filled}
@@ -20,6 +20,7 @@ use Rattle.book.proofs.Passed.{passed}
 use Rattle.book.proofs.Refused.{kept-left}
 use Rattle.book.proofs.Steps.{Held, held-none, held-worked, held-after, tablesOf, answer-made, kept-made, never-bad}
 use Rattle.book.proofs.Edits.{edited-book}
+use Rattle.book.proofs.Lists.{listed-book}
 
 -- a sequence from the tables of a book leaves those of the book at its end
 run-made : (steps : List Step) (b : Book) → Held (b .stops) (b .links) → Sequence (tablesOf b) steps →
@@ -47,15 +48,30 @@ unfolding run Sequence
 front [] s rest t (d, more) = (tt, d, more)
 front (m ∷ made) s rest t (d, more) = let (part, e, behind) = front made s rest (kept m t) more in ((d, part), e, behind)
 
--- an accepted edit on the tables of a book has the facts that demand 3 wants
+-- what holds of an accepted call on the tables of a book holds of one that was made there, if it was lent the five themselves
+facts-made : (P : Tables → Answer → Type 0) (s : Step) (b : Book) → lent (s .call) (tablesOf b) ≡ tablesOf b →
+    Done (s .call) (lent (s .call) (tablesOf b)) (s .left) (s .answer) → s .answer .refusal ≡ Accepted →
+    (refusal (s .call) (tablesOf b) ≡ Accepted → P (after (s .call) (tablesOf b)) (answer (s .call) (tablesOf b))) → P (s .left) (s .answer)
+facts-made P s b own d ok facts =
+    let same : Done (s .call) (tablesOf b) (s .left) (s .answer) = subst (λ t. Done (s .call) t (s .left) (s .answer)) own d in
+    rw (same .left, same .answered) (facts (sym (done-refusal (s .call) (tablesOf b) same) ∙ ok))
+
+-- an accepted edit on the tables of a book, and an accepted list, have the facts that demand 3 wants
 edited-made : (s : Step) (b : Book) (e : Edit) → Held (b .stops) (b .links) → s .call .ask ≡ edit e →
     Done (s .call) (lent (s .call) (tablesOf b)) (s .left) (s .answer) → s .answer .refusal ≡ Accepted →
     EditFacts (s .call .n) e (tablesOf b) (s .left) (s .answer)
-unfolding rule filled
+unfolding rule
 edited-made s b e h asked d ok =
-    let same : Done (s .call) (tablesOf b) (s .left) (s .answer) =
-    subst (λ ask. Done (s .call) (withCost (rule (s .call .n) ask (b .links) .lentCost) (tablesOf b)) (s .left) (s .answer)) asked d in
-    rw (same .left, same .answered) (edited-book (s .call) b e h asked (sym (done-refusal (s .call) (tablesOf b) same) ∙ ok))
+    facts-made (EditFacts (s .call .n) e (tablesOf b)) s b (ap (λ ask. lent (record { n = s .call .n; ask = ask }) (tablesOf b)) asked) d ok
+    (edited-book (s .call) b e h asked)
+
+listed-made : (s : Step) (b : Book) (edits : List Edit) → Held (b .stops) (b .links) → s .call .ask ≡ editList edits →
+    Done (s .call) (lent (s .call) (tablesOf b)) (s .left) (s .answer) → s .answer .refusal ≡ Accepted →
+    SetFacts (s .call .n) (touchedBy (s .call .n) edits (tablesOf b .cost)) (tablesOf b) (s .left) (s .answer)
+unfolding rule filled
+listed-made s b edits h asked d ok =
+    facts-made (SetFacts (s .call .n) (touchedBy (s .call .n) edits (b .links)) (tablesOf b)) s b
+    (ap (λ ask. lent (record { n = s .call .n; ask = ask }) (tablesOf b)) asked) d ok (listed-book (s .call) b edits h asked)
 
 module _ (N : ℕ) (start : Tables) (from : Started N start) where
   -- the tables of an empty hall, of which the book says that there are no links
@@ -79,6 +95,13 @@ module _ (N : ℕ) (start : Tables) (from : Started N start) where
   pub of-books : (P : Tables → Type 0) (steps : List Step) → Sequence start steps → ((links : List ℕ) → Held N links → P (filled scale N links)) → P (run kept steps start)
   of-books P steps made h = let (same, held) = at-end steps made in subst⁻¹ P same (h _ held)
 
+  -- a call in a sequence was made on the tables of a book
+  at-step : (P : Tables → Type 0) (before rest : List Step) (s : Step) → Sequence start (before ++ s ∷ rest) →
+      ((b : Book) → Held (b .stops) (b .links) → Done (s .call) (lent (s .call) (tablesOf b)) (s .left) (s .answer) → P (tablesOf b)) → P (run kept before start)
+  at-step P before rest s made facts =
+      let (part, d, more) = front before s rest start made in
+      of-books (λ t. Done (s .call) (lent (s .call) t) (s .left) (s .answer) → P t) before part (λ links h d. facts (record { stops = N; links = links }) h d) d
+
 -- demand 3
 pub demand3 : Demand3
 unfolding Demand3
@@ -86,9 +109,11 @@ demand3 N start steps from made = (
   at-end N start from steps made .0,
   answers-made steps (noLinks N) (held-first N start from) (subst (λ t. Sequence t steps) (start-book N start from) made),
   λ before rest s e split asked ok.
-      let (part, d, more) = front before s rest start (subst (Sequence start) split made) in
-      of-books N start from (λ t. Done (s .call) (lent (s .call) t) (s .left) (s .answer) → EditFacts (s .call .n) e t (s .left) (s .answer)) before part
-      (λ links h d. edited-made s (record { stops = N; links = links }) e h asked d ok) d,
+      at-step N start from (λ t. EditFacts (s .call .n) e t (s .left) (s .answer)) before rest s (subst (Sequence start) split made)
+      (λ b h d. edited-made s b e h asked d ok),
+  λ before rest s edits split asked ok.
+      at-step N start from (λ t. SetFacts (s .call .n) (touchedBy (s .call .n) edits (t .cost)) t (s .left) (s .answer)) before rest s (subst (Sequence start) split made)
+      (λ b h d. listed-made s b edits h asked d ok),
 )
 
 -- every N from 1 to 64 has such tables to start from, and every list of calls such a sequence
@@ -144,10 +169,10 @@ module _ (N : ℕ) (start : Tables) (from : Started N start) where
       let t : Tables = run kept before start in
       let n : ℕ = s .call .n in
       let touches : ℕ → Bool = touched n (t .cost) (s .left .cost) (e .u) (e .v) in
-      let member : (x : ℕ) → x < n → has (s .answer .touched) x ≡ touches x = λ x l. f .names x ∙ rw (lt-ltb x n l) in
+      let member : (x : ℕ) → x < n → has (s .answer .touched) x ≡ touches x = λ x l. f .set .names x ∙ rw (lt-ltb x n l) in
       let over : (u : Tables) (x : ℕ) → sumTo n (λ s′. cond (has (s .answer .touched) s′) (entry n (u .share) s′ x) 0) ≡ sumTo n (λ s′. cond (touches s′) (entry n (u .share) s′ x) 0) =
       λ u x. sumTo-cong n (λ i l. rw (member i l)) in
-      (λ x l. f .changes x l ∙ member x l, f .counts ∙ sumTo-cong 64 (λ i l. rw (f .names i)), λ x l. rw (← over t x, ← over (s .left) x) (f .moves x l))
+      (λ x l. f .changes x l ∙ member x l, f .set .counts ∙ sumTo-cong 64 (λ i l. rw (f .set .names i)), λ x l. rw (← over t x, ← over (s .left) x) (f .set .moves x l))
 
   -- an accepted edit of a sequence that the next call reverses: that one is accepted too, leaves the five tables of before the edit,
   -- and touches the same sources
@@ -173,9 +198,8 @@ module _ (N : ℕ) (start : Tables) (from : Started N start) where
   -- no call of a sequence answers 3
   pub never-three : (made : List Step) (s : Step) (rest : List Step) → Sequence start (made ++ s ∷ rest) → s .answer .refusal ≢ BadTables
   never-three made s rest all =
-      let (before, d, more) = front made s rest start all in
-      of-books N start from (λ t. Done (s .call) (lent (s .call) t) (s .left) (s .answer) → s .answer .refusal ≢ BadTables) made before
-      (λ links h d bad. let b : Book = record { stops = N; links = links } in never-bad (s .call) b (sym (ap (λ a. a .refusal) (answer-made s b h d) ∙ book-refusal (s .call) b) ∙ bad)) d
+      at-step N start from (λ t. s .answer .refusal ≢ BadTables) made rest s all
+      (λ b h d bad. never-bad (s .call) b (sym (ap (λ a. a .refusal) (answer-made s b h d) ∙ book-refusal (s .call) b) ∙ bad))
 
   -- a work out on the cost table that a sequence leaves is accepted and changes nothing
   pub worked-out : (steps : List Step) → Sequence start steps →

@@ -1,27 +1,27 @@
 -- One call on the tables of a book: it is refused, leaves and answers what the book says. Assumes nothing.
-use Prim.Native.Nat.{ℕ, _*_, _<_}
+use Prim.Native.Nat.{ℕ, _+_, _*_, _<_}
 use mathlib.Core.Path.{_≡_, refl, _∙_, ap, subst}
 use mathlib.Core.Logic.{_≢_}
 use mathlib.Core.Bool.{Bool, true, false, cond, _&&_, and-eq-true-iff}
 use mathlib.Core.List.{List, [], _∷_}
-use lib.Dec.{eqb, ltb, leb, lit<}
+use lib.Dec.{eqb, leb, lit<}
 use lib.ListN.{length, replicate, length-set, length-replicate}
-use borrow.Author.Tests.{eqb-true, eq-eqb}
+use native.Mathlib.Omega.{arith}
+use borrow.Author.Tests.{eqb-true, eq-eqb, ne-eqb, leb-true}
 use Rattle.routes.proofs.Booleans.{both}
-use Rattle.book.specs.Hall.{Tables, mostStops, largestCost, mostWays, scale, upTo, entry, filled, sized, validPair, validCosts, uncrowded, right, imageOf, isImage, costsOf}
-use Rattle.book.specs.Call.{Ask, emptyHall, audit, workOut, edit, imageWrite, imageRead, Call, number, accepted, need, otherCostTests, costTests, waysTest, costSet, withEdit, Rule, rule, Answer, refusal, after, answer, Done}
+use Rattle.book.specs.Hall.{Tables, mostStops, mostWays, mostEdits, scale, upTo, entry, filled, sized, validCosts, uncrowded, right, imageOf, isImage, costsOf}
+use Rattle.book.specs.Call.{Ask, emptyHall, audit, workOut, edit, editList, imageWrite, imageRead, Call, number, accepted, need, waysTest, costSet, withEdit, editRefusal, run, withEdits, judged, Rule, rule, Answer, refusal, after, answer, Done}
 use Rattle.book.specs.Book.{Book, bookRefusal, bookAfter, bookAnswer, Step, withCost, lent, kept, Sequence}
 use Rattle.book.specs.declared.Edit.{Edit}
-use Rattle.book.specs.declared.Kind.{Kind}
-use Rattle.book.specs.declared.Kind.the-variants.{Insert, Cheapen, Raise, Delete}
 use Rattle.book.specs.declared.Refusal.{Refusal}
-use Rattle.book.specs.declared.Refusal.the-variants.{Accepted, BadSize, BadLength, BadTables, BadStop, BadCost, LinkPresent, LinkAbsent, CostWrongSide, BadImage, ShortBuffer, TooManyWays}
+use Rattle.book.specs.declared.Refusal.the-variants.{Accepted, BadSize, BadLength, BadTables, BadCost, BadImage, ShortBuffer, TooManyWays, ListTooLong}
 use Rattle.book.proofs.Tables.{entry-set, valid-set}
 use Rattle.book.proofs.Images.{length-read, read-valid}
 use Rattle.book.proofs.NoLinks.{valid-none, uncrowded-none}
 use Rattle.book.proofs.Filled.{sized-beside, sized-filled, sized-cost, right-filled, right-true}
 use Rattle.book.proofs.Answers.{book-refusal}
-use Rattle.book.proofs.Passed.{need-true, chain-true, passed, fitted, audited, Permitted, permitted}
+use Rattle.book.proofs.Places.{Told, edit-told, judged-told}
+use Rattle.book.proofs.Passed.{need-true, chain-true, passed, fitted, audited, Permitted, permitted, judged-true}
 
 -- what holds of a book's N and links at every point of a sequence
 pub record Held (n : ℕ) (cost : List ℕ) : Type 0 where
@@ -59,6 +59,14 @@ module _ (n : ℕ) (e : Edit) (cost : List ℕ) (h : Held n cost) (p : Permitted
     few = p .few;
   }
 
+-- and so does a list of them
+pub held-list : (n k : ℕ) (edits : List Edit) (cost : List ℕ) → Held n cost → accepted (judged n k edits cost .refusal) ≡ true → Held n (withEdits n edits cost)
+unfolding run rule
+held-list n k [] cost h ok = h
+held-list n k (e ∷ rest) cost h ok =
+    let (first, then) = judged-true n k e rest cost ok in
+    held-list n (k + 1) rest (withEdit n e cost) (held-edited n e cost h (permitted n e cost first)) then
+
 -- of the costs of tables that are right
 pub held-right : (n : ℕ) (t : Tables) → upTo mostStops n ≡ true → sized n t ≡ true → right scale mostWays n t ≡ true → Held n (t .cost)
 held-right n t size lengths sound =
@@ -73,6 +81,9 @@ rule-held n emptyHall t size lengths fits sound e = held-none n size
 rule-held n audit t size lengths fits sound e = held-right n t size lengths sound
 rule-held n (workOut c) t size lengths fits sound e = worked-held n c (t .cost) size fits e
 rule-held n (edit x) t size lengths fits sound e = held-edited n x (t .cost) (held-right n t size lengths sound) (permitted n x (t .cost) e)
+rule-held n (editList edits) t size lengths fits sound e =
+    let (short, judged) = need-true (leb (length edits) mostEdits) ListTooLong _ refl e in
+    held-list n 1 edits (t .cost) (held-right n t size lengths sound) judged
 rule-held n (imageWrite buffer) t size lengths fits sound e = held-right n t size lengths sound
 rule-held n (imageRead image) t size lengths fits sound e =
     let (is, e₁) = need-true (isImage n image) BadImage _ refl e in
@@ -107,6 +118,7 @@ by-lent n P t own brought emptyHall = own emptyHall
 by-lent n P t own brought audit = own audit
 by-lent n P t own brought (workOut cost) = brought cost
 by-lent n P t own brought (edit e) = own (edit e)
+by-lent n P t own brought (editList edits) = own (editList edits)
 by-lent n P t own brought (imageWrite buffer) = own (imageWrite buffer)
 by-lent n P t own brought (imageRead image) = own (imageRead image)
 
@@ -122,6 +134,7 @@ right-passes n emptyHall cost t e = refl
 right-passes n audit cost t e = e
 right-passes n (workOut c) cost t e = refl
 right-passes n (edit x) cost t e = e
+right-passes n (editList edits) cost t e = e
 right-passes n (imageWrite buffer) cost t e = e
 right-passes n (imageRead image) cost t e = refl
 
@@ -217,23 +230,23 @@ need-other false r e f = record { not-three = e }
 ways-other : (n : ℕ) (cost : List ℕ) → Other (waysTest n cost)
 ways-other n cost = need-other (uncrowded mostWays n cost) TooManyWays refl (record { not-three = refl })
 
-other-cost-other : (wanted : Bool) (c present : ℕ) {next : Refusal} → Other next → Other (otherCostTests wanted c present next)
-other-cost-other wanted c present f =
-    need-other (upTo largestCost c) BadCost refl (need-other (ltb 0 present) LinkAbsent refl (need-other wanted CostWrongSide refl f))
-
-cost-other : (k : Kind) (c present : ℕ) {next : Refusal} → Other next → Other (costTests k c present next)
-cost-other Insert c present f = need-other (upTo largestCost c) BadCost refl (need-other (eqb present 0) LinkPresent refl f)
-cost-other Cheapen c present f = other-cost-other (ltb c present) c present f
-cost-other Raise c present f = other-cost-other (ltb present c) c present f
-cost-other Delete c present f = need-other (ltb 0 present) LinkAbsent refl f
+-- what only an edit's refusals are is none
+told-other : (r : Refusal) → Told r → Other r
+told-other r t = go (accepted r) refl
+  where
+    go : (b : Bool) → accepted r ≡ b → Other r
+    go true ok = record { not-three = rw (eqb-true (number r) 0 ok) }
+    go false shut =
+        let low = leb-true 4 (number r) (and-eq-true-iff (leb 4 (number r)) (leb (number r) 11) .0 (t .tells shut) .0) in
+        record { not-three = ne-eqb (number r) 3 (λ e. omega arith) }
 
 rule-other : (n : ℕ) (ask : Ask) (cost : List ℕ) → Other (rule n ask cost .tests)
 unfolding rule
 rule-other n emptyHall cost = record { not-three = refl }
 rule-other n audit cost = record { not-three = refl }
 rule-other n (workOut c) cost = need-other (validCosts n c) BadCost refl (ways-other n c)
-rule-other n (edit e) cost =
-    need-other (validPair n (e .u) (e .v)) BadStop refl (cost-other (e .kind) (e .cost) (entry n cost (e .u) (e .v)) (ways-other n (withEdit n e cost)))
+rule-other n (edit e) cost = told-other (editRefusal n e cost) (edit-told n e cost)
+rule-other n (editList edits) cost = need-other (leb (length edits) mostEdits) ListTooLong refl (told-other (judged n 1 edits cost .refusal) (judged-told n 1 edits cost))
 rule-other n (imageWrite buffer) cost =
     need-other (leb (length (imageOf n cost)) (length buffer)) ShortBuffer refl (record { not-three = refl })
 rule-other n (imageRead image) cost = need-other (isImage n image) BadImage refl (ways-other n (costsOf n image))

@@ -1,13 +1,13 @@
 -- The book of document 01, sequences of calls, and demand 3 as a type. Assumes nothing.
 use Prim.Native.Nat.{ℕ, _+_, _*_, _<_}
 use mathlib.Core.Path.{_≡_}
-use mathlib.Core.Bool.{Bool, true, cond, not, _&&_}
+use mathlib.Core.Bool.{Bool, true, false, cond, not, _&&_}
 use mathlib.Core.List.{List, [], _∷_, _++_, map}
 use lib.Dec.{eqb, ltb}
 use lib.ListN.{getD, replicate}
 use Rattle.routes.specs.Route.{sumTo, allTo, has}
 use Rattle.book.specs.Hall.{Tables, scale, entry, filled, touched}
-use Rattle.book.specs.Call.{emptyHall, edit, Call, Rule, rule, Answer, accepted, chain, reply, refusal, after, answer, Done, reversal}
+use Rattle.book.specs.Call.{emptyHall, edit, editList, Call, Rule, rule, Answer, accepted, run, touchedBy, chain, reply, refusal, after, answer, Done, reversal}
 use Rattle.book.specs.declared.Edit.{Edit}
 use Rattle.book.specs.declared.Refusal.{Refusal}
 use Rattle.book.specs.declared.Refusal.the-variants.{Accepted}
@@ -32,11 +32,6 @@ bookAnswer c b = reply (bookRefusal c b) (rule (c .n) (c .ask) (b .links))
 -- the book at first: no links
 abbrev pub noLinks : ℕ → Book
 noLinks N = record { stops = N; links = replicate (N * N) 0 }
-
--- a state after some steps, each from where the last one led
-unfoldable pub run : {C S : Type 0} → (C → S → S) → List C → S → S
-run step [] state = state
-run step (c ∷ rest) state = run step rest (step c state)
 
 -- what the book says to each of some calls
 unfoldable pub bookAnswers : List Call → Book → List Answer
@@ -83,14 +78,19 @@ pub record Reverses (c : Call) (t t′ : Tables) (a : Answer) : Type 0 where
   pub gives : after c t′ ≡ t
   pub touches : (answer c t′ .touched ≡ a .touched) × (answer c t′ .rows ≡ a .rows)
 
--- an accepted edit, tables t before and t′ after; its set has 64 bits
-pub record EditFacts (n : ℕ) (e : Edit) (t t′ : Tables) (a : Answer) : Type 0 where
-  pub names : (s : ℕ) → has (a .touched) s ≡ (ltb s n && touched n (t .cost) (t′ .cost) (e .u) (e .v) s)
+-- the set of an accepted call that touches these sources, tables t before and t′ after; it has 64 bits
+pub record SetFacts (n : ℕ) (sources : ℕ → Bool) (t t′ : Tables) (a : Answer) : Type 0 where
+  pub names : (s : ℕ) → has (a .touched) s ≡ (ltb s n && sources s)
   pub counts : a .rows ≡ sumTo 64 (λ s. cond (has (a .touched) s) 1 0)
-  pub changes : (s : ℕ) → s < n → changed n t t′ s ≡ has (a .touched) s
+  pub stays : (s : ℕ) → s < n → has (a .touched) s ≡ false → changed n t t′ s ≡ false
   pub moves : (x : ℕ) → x < n →
       getD (t′ .score) x 0 + sumTo n (λ s. cond (has (a .touched) s) (entry n (t .share) s x) 0) ≡
       getD (t .score) x 0 + sumTo n (λ s. cond (has (a .touched) s) (entry n (t′ .share) s x) 0)
+
+-- an accepted edit: beyond that, each row of its set changes
+pub record EditFacts (n : ℕ) (e : Edit) (t t′ : Tables) (a : Answer) : Type 0 where
+  pub set : SetFacts n (touched n (t .cost) (t′ .cost) (e .u) (e .v)) t t′ a
+  pub changes : (s : ℕ) → s < n → changed n t t′ s ≡ has (a .touched) s
   pub tells : a .before ≡ entry n (t .cost) (e .u) (e .v)
   pub reverses : Reverses (record { n = n; ask = edit (reversal (e .kind) (e .u) (e .v) a) }) t t′ a
 
@@ -101,10 +101,12 @@ pub record Started (N : ℕ) (start : Tables) : Type 0 where
   pub done : Done (record { n = N; ask = emptyHall }) found start said
   pub taken : said .refusal ≡ Accepted
 
--- demand 3: the tables after the sequence, the answers in it, and its accepted edits
+-- demand 3: the tables after the sequence, the answers in it, its accepted edits, and its accepted lists of edits
 unfoldable pub Demand3 : Type 0
 Demand3 = (N : ℕ) (start : Tables) (steps : List Step) → Started N start → Sequence start steps →
     (run kept steps start ≡ filled scale N (run bookAfter (callsOf steps) (noLinks N) .links)) ×
     (map (λ s. s .answer) steps ≡ bookAnswers (callsOf steps) (noLinks N)) ×
     ((before rest : List Step) (s : Step) (e : Edit) → steps ≡ before ++ s ∷ rest → s .call .ask ≡ edit e →
-    s .answer .refusal ≡ Accepted → EditFacts (s .call .n) e (run kept before start) (s .left) (s .answer))
+    s .answer .refusal ≡ Accepted → EditFacts (s .call .n) e (run kept before start) (s .left) (s .answer)) ×
+    ((before rest : List Step) (s : Step) (edits : List Edit) → steps ≡ before ++ s ∷ rest → s .call .ask ≡ editList edits →
+    s .answer .refusal ≡ Accepted → let t : Tables = run kept before start in SetFacts (s .call .n) (touchedBy (s .call .n) edits (t .cost)) t (s .left) (s .answer))

@@ -2,19 +2,19 @@
 -- it the refusal, the tables after the call and the answer on any tables; and what a contract promises. Assumes nothing.
 use Prim.Native.Nat.{ℕ, _+_, _*_}
 use mathlib.Core.Path.{_≡_}
-use mathlib.Core.Bool.{Bool, true, cond, _&&_}
-use mathlib.Core.List.{List, [], _++_}
+use mathlib.Core.Bool.{Bool, true, false, cond, _&&_, _||_}
+use mathlib.Core.List.{List, [], _∷_, _++_}
 use lib.Dec.{eqb, ltb, leb}
 use lib.ListN.{length, drop, set, replicate}
 use Rattle.routes.specs.Route.{sumTo, setOf}
-use Rattle.book.specs.Hall.{Tables, mostStops, largestCost, mostWays, scale, upTo, entry, filled, sized, validPair, validCosts, uncrowded, right, touched, imageOf, isImage, costsOf}
+use Rattle.book.specs.Hall.{Tables, mostStops, largestCost, mostWays, mostEdits, scale, upTo, entry, filled, sized, validPair, validCosts, uncrowded, right, touched, imageOf, isImage, costsOf}
 use Rattle.book.specs.declared.Edit.{Edit}
 use Rattle.book.specs.declared.Kind.{Kind}
 use Rattle.book.specs.declared.Kind.the-variants.{Insert, Cheapen, Raise, Delete}
 use Rattle.book.specs.declared.Refusal.{Refusal}
-use Rattle.book.specs.declared.Refusal.the-variants.{Accepted, BadSize, BadLength, BadTables, BadStop, BadCost, LinkPresent, LinkAbsent, CostWrongSide, BadImage, ShortBuffer, TooManyWays}
+use Rattle.book.specs.declared.Refusal.the-variants.{Accepted, BadSize, BadLength, BadTables, BadStop, BadCost, LinkPresent, LinkAbsent, CostWrongSide, BadImage, ShortBuffer, TooManyWays, ListTooLong}
 
--- document 01's number of each refusal, 0 for an accepted call
+-- the documents' number of each refusal, 0 for an accepted call
 abbrev pub number : Refusal → ℕ
 number Accepted = 0
 number BadSize = 1
@@ -28,6 +28,7 @@ number CostWrongSide = 8
 number BadImage = 9
 number ShortBuffer = 10
 number TooManyWays = 11
+number ListTooLong = 12
 
 abbrev pub accepted : Refusal → Bool
 accepted r = eqb (number r) 0
@@ -37,6 +38,7 @@ pub data Ask : Type 0 where
   emptyHall audit : Ask
   workOut : (cost : List ℕ) → Ask
   edit : (e : Edit) → Ask
+  editList : (edits : List Edit) → Ask
   imageWrite : (buffer : List ℕ) → Ask
   imageRead : (image : List ℕ) → Ask
 
@@ -79,27 +81,67 @@ costSet Delete c = 0
 abbrev pub withEdit : ℕ → Edit → List ℕ → List ℕ
 withEdit n e cost = set cost (e .u * n + e .v) (costSet (e .kind) (e .cost))
 
--- an edit's set of touched sources, their number and what its link cost before, an image write's length, and the buffer after the call
+-- 4 to 11: what refuses an edit in the hall with these costs
+abbrev pub editRefusal : ℕ → Edit → List ℕ → Refusal
+editRefusal n e cost = editTests n e cost (waysTest n (withEdit n e cost))
+
+-- a state after some steps, each from where the last one led
+unfoldable pub run : {C S : Type 0} → (C → S → S) → List C → S → S
+run step [] state = state
+run step (c ∷ rest) state = run step rest (step c state)
+
+-- the costs that a list of edits leaves, one after another
+abbrev pub withEdits : ℕ → List Edit → List ℕ → List ℕ
+withEdits n edits cost = run (withEdit n) edits cost
+
+-- touched by some edit of a list, each in the hall that its predecessors made
+unfoldable pub touchedBy : ℕ → List Edit → List ℕ → ℕ → Bool
+touchedBy n [] cost s = false
+touchedBy n (e ∷ rest) cost s = touched n cost (withEdit n e cost) (e .u) (e .v) s || touchedBy n rest (withEdit n e cost) s
+
+-- the first refused edit of a list: its refusal and its place, 0 where none is refused
+pub record Verdict : Type 0 where
+  pub refusal : Refusal
+  pub place : ℕ
+
+-- the edits judged in turn, each in the hall that its predecessors made; k is the place of the first in hand
+unfoldable pub judged : (n k : ℕ) → List Edit → List ℕ → Verdict
+judged n k [] cost = record { refusal = Accepted; place = 0 }
+judged n k (e ∷ rest) cost =
+    let refusal : Refusal = editRefusal n e cost in
+    cond (accepted refusal) (judged n (k + 1) rest (withEdit n e cost)) (record { refusal = refusal; place = k })
+
+-- 4 to 11: the refusals of which a list tells a place
+abbrev pub ofAnEdit : Refusal → Bool
+ofAnEdit r = leb 4 (number r) && leb (number r) 11
+
+-- the place of a list's first refused edit, the set of touched sources, their number and what an edit's link cost before, an image
+-- write's length, and the buffer after the call
 pub record Answer : Type 0 where
   pub refusal : Refusal
+  pub place : ℕ
   pub touched : ℕ
   pub rows : ℕ
   pub before : ℕ
   pub length : ℕ
   pub buffer : List ℕ
 
--- the answer of any refused call, and of an accepted one that has no more to tell: the buffer is as it was lent
-abbrev pub plain : Refusal → List ℕ → Answer
-plain refusal buffer = record { refusal = refusal; touched = 0; rows = 0; before = 0; length = 0; buffer = buffer }
+-- the answer of a refused call: the buffer is as it was lent
+abbrev pub refusedAt : Refusal → (place : ℕ) → List ℕ → Answer
+refusedAt refusal place buffer = record { refusal = refusal; place = place; touched = 0; rows = 0; before = 0; length = 0; buffer = buffer }
 
--- of an accepted call that names sources, and tells what a link cost before
+-- of one that has no place to tell, and of an accepted call that has no more to tell
+abbrev pub plain : Refusal → List ℕ → Answer
+plain refusal buffer = refusedAt refusal 0 buffer
+
+-- of an accepted call that names sources, and tells what a link cost before, 0 for a list
 abbrev pub names : ℕ → (ℕ → Bool) → ℕ → Answer
 names n sources before =
-    record { refusal = Accepted; touched = setOf n sources; rows = sumTo n (λ s. cond (sources s) 1 0); before = before; length = 0; buffer = [] }
+    record { refusal = Accepted; place = 0; touched = setOf n sources; rows = sumTo n (λ s. cond (sources s) 1 0); before = before; length = 0; buffer = [] }
 
 -- of an accepted call that writes bytes in front of its buffer
 abbrev pub writes : (bytes buffer : List ℕ) → Answer
-writes bytes buffer = record { refusal = Accepted; touched = 0; rows = 0; before = 0; length = length bytes; buffer = bytes ++ drop (length bytes) buffer }
+writes bytes buffer = record { refusal = Accepted; place = 0; touched = 0; rows = 0; before = 0; length = length bytes; buffer = bytes ++ drop (length bytes) buffer }
 
 -- what a call is lent and looks at, over the present costs, and what it leaves and says if it is accepted
 pub record Rule : Type 0 where
@@ -107,27 +149,34 @@ pub record Rule : Type 0 where
   pub lentBuffer : List ℕ
   pub fits : Bool  -- 2, of what it brings
   pub sound : Tables → Bool  -- 3; true where it does not look
-  pub tests : Refusal  -- 4 to 11
+  pub tests : Refusal  -- 4 to 12
+  pub place : Refusal → ℕ  -- that the refusal of a list tells; 0 in every other call
   pub leaves : List ℕ  -- the costs of the hall whose tables it leaves: where they are the present ones and sound, those that it was lent
   pub says : Answer
 
 -- a call that brings nothing and is lent no buffer
 abbrev pub onPresent : List ℕ → (Tables → Bool) → Refusal → List ℕ → Answer → Rule
-onPresent cost sound tests leaves says = record { lentCost = cost; lentBuffer = []; fits = true; sound = sound; tests = tests; leaves = leaves; says = says }
+onPresent cost sound tests leaves says = record { lentCost = cost; lentBuffer = []; fits = true; sound = sound; tests = tests; place = λ r. 0; leaves = leaves; says = says }
 
 -- by n, what is asked and the present costs
 unfoldable pub rule : ℕ → Ask → List ℕ → Rule
 rule n emptyHall cost = onPresent cost (λ t. true) Accepted (replicate (n * n) 0) (plain Accepted [])
 rule n audit cost = onPresent cost (right scale mostWays n) Accepted cost (plain Accepted [])
 rule n (workOut c) cost =
-    record { lentCost = c; lentBuffer = []; fits = eqb (length c) (n * n); sound = λ t. true; tests = need (validCosts n c) BadCost (waysTest n c); leaves = c; says = plain Accepted [] }
+    record { lentCost = c; lentBuffer = []; fits = eqb (length c) (n * n); sound = λ t. true; tests = need (validCosts n c) BadCost (waysTest n c); place = λ r. 0; leaves = c; says = plain Accepted [] }
 rule n (edit e) cost =
     let cost′ : List ℕ = withEdit n e cost in
     let says : Answer = names n (touched n cost cost′ (e .u) (e .v)) (entry n cost (e .u) (e .v)) in
-    onPresent cost (right scale mostWays n) (editTests n e cost (waysTest n cost′)) cost′ says
+    onPresent cost (right scale mostWays n) (editRefusal n e cost) cost′ says
+rule n (editList edits) cost =
+    let first : Verdict = judged n 1 edits cost in
+    let tests : Refusal = need (leb (length edits) mostEdits) ListTooLong (first .refusal) in
+    let place : Refusal → ℕ = λ r. cond (ofAnEdit r) (first .place) 0 in
+    let says : Answer = names n (touchedBy n edits cost) 0 in
+    record { lentCost = cost; lentBuffer = []; fits = true; sound = right scale mostWays n; tests = tests; place = place; leaves = withEdits n edits cost; says = says }
 rule n (imageWrite buffer) cost =
     let image : List ℕ = imageOf n cost in
-    record { lentCost = cost; lentBuffer = buffer; fits = true; sound = right scale mostWays n; tests = need (leb (length image) (length buffer)) ShortBuffer Accepted; leaves = cost; says = writes image buffer }
+    record { lentCost = cost; lentBuffer = buffer; fits = true; sound = right scale mostWays n; tests = need (leb (length image) (length buffer)) ShortBuffer Accepted; place = λ r. 0; leaves = cost; says = writes image buffer }
 rule n (imageRead image) cost =
     let cost′ : List ℕ = costsOf n image in
     onPresent cost (λ t. true) (need (isImage n image) BadImage (waysTest n cost′)) cost′ (plain Accepted [])
@@ -136,9 +185,9 @@ rule n (imageRead image) cost =
 abbrev pub chain : ℕ → (lengths sound : Bool) → Refusal → Refusal
 chain n lengths sound tests = need (upTo mostStops n) BadSize (need lengths BadLength (need sound BadTables tests))
 
--- the answer by a rule: a refused call says its refusal alone
+-- the answer by a rule: a refused call says its refusal and, of a list, the place
 abbrev pub reply : Refusal → Rule → Answer
-reply refusal r = cond (accepted refusal) (r .says) (plain refusal (r .lentBuffer))
+reply refusal r = cond (accepted refusal) (r .says) (refusedAt refusal (r .place refusal) (r .lentBuffer))
 
 -- the call on any tables: its refusal, by the first test that fails, the tables after it and its answer
 unfoldable pub refusal : Call → Tables → Refusal

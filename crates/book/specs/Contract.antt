@@ -9,6 +9,7 @@ use denote.Triple.Both.{Both}
 use Rattle.book.specs.Hall.{Tables, mostStops, mostWays, scale, upTo, sized, right}
 use Rattle.book.specs.Call.{Answer, plain, chain}
 use Rattle.book.specs.declared.EditAnswer.{EditAnswer}
+use Rattle.book.specs.declared.ListAnswer.{ListAnswer}
 use Rattle.book.specs.declared.WriteAnswer.{WriteAnswer}
 use Rattle.book.specs.declared.Refusal.{Refusal}
 use Rattle.book.specs.declared.Refusal.the-variants.{Accepted}
@@ -37,15 +38,18 @@ left cost time ways share score = these (cost .exit) (time .exit) (ways .exit) (
 abbrev pub leftBeside : (cost time ways share score : Param) → Tables
 leftBeside cost time ways share score = these (cost .entry) (time .exit) (ways .exit) (share .exit) (score .exit)
 
--- an answer as the code gives it: a refusal alone, an edit's, and an image write's with its buffer
+-- an answer as the code gives it: a refusal alone, an edit's, a list's, and an image write's with its buffer
 abbrev pub ofRefusal : Refusal → Answer
 ofRefusal r = plain r []
 
 abbrev pub ofEdit : EditAnswer → Answer
-ofEdit a = record { refusal = a .refusal; touched = a .touched; rows = a .rows; before = a .before; length = 0; buffer = [] }
+ofEdit a = record { refusal = a .refusal; place = 0; touched = a .touched; rows = a .rows; before = a .before; length = 0; buffer = [] }
+
+abbrev pub ofList : ListAnswer → Answer
+ofList a = record { refusal = a .refusal; place = a .place; touched = a .touched; rows = a .rows; before = 0; length = 0; buffer = [] }
 
 abbrev pub ofWrite : WriteAnswer → List ℕ → Answer
-ofWrite a buffer = record { refusal = a .refusal; touched = 0; rows = 0; before = 0; length = a .length; buffer = buffer }
+ofWrite a buffer = record { refusal = a .refusal; place = 0; touched = 0; rows = 0; before = 0; length = a .length; buffer = buffer }
 
 -- the door: tests 1 and 2 of the five lent tables
 abbrev pub doorTests : ℕ → Tables → Refusal

@@ -7,7 +7,7 @@ use lib.Dec.{eqb, ltb, leb}
 use lib.ListN.{length, getD}
 use Rattle.routes.specs.Route.{Costs, sumTo, joinTo, listTo, allTo, same, link, leastTime, ways, share, score, used}
 
--- the limits, and the scale L; the mark stands with the times
+-- the limits of a hall and of a list of edits, and the scale L; the mark stands with the times
 abbrev pub mostStops : ℕ
 mostStops = 64
 
@@ -16,6 +16,9 @@ largestCost = 65535
 
 abbrev pub mostWays : ℕ
 mostWays = 22
+
+abbrev pub mostEdits : ℕ
+mostEdits = 32
 
 abbrev pub scale : ℕ
 scale = 232792560

@@ -3,7 +3,7 @@
 pub mod limits;
 pub mod number_of;
 
-// The answers of a call: document 01's eleven refusals, and acceptance. specs/Call.antt has their numbers.
+// The answers of a call: the documents' twelve refusals, and acceptance. specs/Call.antt has their numbers.
 pub enum Refusal {
     Accepted,
     BadSize,
@@ -17,6 +17,7 @@ pub enum Refusal {
     BadImage,
     ShortBuffer,
     TooManyWays,
+    ListTooLong,
 }
 
 // The kinds of edit of a link.
@@ -42,6 +43,15 @@ pub struct EditAnswer {
     pub touched: u64,
     pub rows: u32,
     pub before: u32,
+}
+
+// The answer of a list of edits: the place of the first refused edit, counted from 1, 0 where none was refused; the set of
+// the sources that some edit touched, and their number.
+pub struct ListAnswer {
+    pub refusal: Refusal,
+    pub place: u32,
+    pub rows: u32,
+    pub touched: u64,
 }
 
 // The answer of an image write, beside the buffer: the image's length.

@@ -1,7 +1,7 @@
 // The limits of a hall, in one place.
 ghost use mathlib.Core.Path.{_≡_};
 ghost use Rattle.routes.specs.Route.{mark};
-ghost use Rattle.book.specs.Hall.{mostStops, largestCost, mostWays, scale, upTo};
+ghost use Rattle.book.specs.Hall.{mostStops, largestCost, mostWays, mostEdits, scale, upTo};
 
 // The hall as the holder of its limits; its contents lie in lent tables.
 pub struct Hall {}
@@ -15,6 +15,8 @@ impl Hall {
     pub const LARGEST_COST: u32 = 65535;
 
     pub const WAYS: u32 = 22;
+    // The most edits of a list.
+    pub const EDITS: usize = 32;
     // The time where there is no route.
     pub const MARK: u32 = 4294967295;
     // What a whole share counts: the least common multiple of 1 to 22.
@@ -36,6 +38,7 @@ pub fn limits_agree()
     ensures stops { λ r. do ⌜ (← ⟦Hall::STOPS⟧ .entry) ≡ mostStops ⌝ }
     ensures cost { λ r. do ⌜ (← ⟦Hall::LARGEST_COST⟧ .entry) ≡ largestCost ⌝ }
     ensures ways { λ r. do ⌜ (← ⟦Hall::WAYS⟧ .entry) ≡ mostWays ⌝ }
+    ensures edits { λ r. do ⌜ (← ⟦Hall::EDITS⟧ .entry) ≡ mostEdits ⌝ }
     ensures mark { λ r. do ⌜ (← ⟦Hall::MARK⟧ .entry) ≡ mark ⌝ }
     ensures scale { λ r. do ⌜ (← ⟦Hall::SCALE⟧ .entry) ≡ scale ⌝ }
 {}

@@ -1,4 +1,4 @@
-// Document 01's number of a refusal.
+// The documents' number of a refusal.
 use super::Refusal;
 ghost use mathlib.Core.Path.{_≡_};
 ghost use Rattle.book.specs.Call.{number, accepted};
@@ -19,6 +19,7 @@ pub fn number_of(r: Refusal) -> u32
         Refusal::BadImage => 9,
         Refusal::ShortBuffer => 10,
         Refusal::TooManyWays => 11,
+        Refusal::ListTooLong => 12,
     }
 }
 

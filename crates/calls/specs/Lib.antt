@@ -1,3 +1,4 @@
 -- Definitions that the contracts cite. Assumes nothing.
 pub mod Kinds
 pub mod Alike
+pub mod Lists

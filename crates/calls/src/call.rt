@@ -21,14 +21,16 @@ pub const RAISE: u64 = 5;
 
 pub const DELETE: u64 = 6;
 
-pub const IMAGE_WRITE: u64 = 7;
+pub const EDIT_LIST: u64 = 7;
 
-pub const IMAGE_READ: u64 = 8;
+pub const IMAGE_WRITE: u64 = 8;
 
-pub const IMAGE_CHECK: u64 = 9;
+pub const IMAGE_READ: u64 = 9;
+
+pub const IMAGE_CHECK: u64 = 10;
 
 // How many there are.
-pub const CALLS: usize = 10;
+pub const CALLS: usize = 11;
 
 // Only an edit reads u, v and the cost, and a delete not the cost.
 pub struct Call {
@@ -52,7 +54,7 @@ pub fn plain(number: u64, n: u64) -> Call
     }
 }
 
-// Whether a call is an edit: their numbers stand side by side.
+// Whether a call is an edit of one link: their numbers stand side by side.
 pub fn is_edit(number: u64) -> bool
     ensures { λ r. ⌜ r ≡ (leb 3 number && leb number 6) ⌝ }
 {

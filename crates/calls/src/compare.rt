@@ -48,8 +48,9 @@ pub fn answers(a: Answer, b: Answer) -> u64
     let sets = unlike(a.touched, b.touched);
     let rows = unlike(a.rows, b.rows);
     let costs = unlike(a.before, b.before);
+    let places = unlike(a.place, b.place);
     let lengths = unlike(a.length, b.length);
-    refusals + sets + rows + costs + lengths
+    refusals + sets + rows + costs + places + lengths
 }
 
 // Five tables against five others, with all their room.

@@ -1,9 +1,11 @@
-// The C face of the hall: each call over pointers and lengths, with document 01's number for its refusal.
+// The C face of the hall: each call over pointers and lengths, with the documents' number for its refusal.
 // The header is host/hall.h.
 use book::Edit;
 use book::Kind;
 use book::number_of::number_of;
 use edits::edit::edit;
+use flat_list::edit_flat;
+use flat_list::other_kind;
 use hall::audit::audit;
 use hall::empty_hall::empty_hall;
 use hall::work_out::work_out;
@@ -14,7 +16,7 @@ ghost use mathlib.Core.Path.{_≡_};
 ghost use Rattle.book.specs.Call.{emptyHall, workOut, audit, edit, imageWrite, imageRead, number, imageCheck};
 ghost use Rattle.book.specs.Contract.{found, left, leftBeside};
 ghost use Rattle.book.specs.declared.Kind.the-variants.{Insert, Cheapen, Raise, Delete};
-ghost use Rattle.host.specs.Promise.{Handed, ofNumber, ofEdited, ofWritten};
+ghost use Rattle.host.specs.Promise.{Handed, HandedList, ofNumber, ofEdited, ofWritten};
 
 // An edit's refusal, the number of touched sources, their set, and the cost before.
 #[repr(C)]
@@ -23,6 +25,18 @@ pub struct HallEdited {
     pub rows: u32,
     pub touched: u64,
     pub before: u32,
+}
+
+// The answer to a list with an edit that is none: no refusal of a call, for no call is made.
+pub const NO_KIND: u32 = 255;
+
+// A list's refusal, the place of the first refused edit, the set of touched sources and their number.
+#[repr(C)]
+pub struct HallListed {
+    pub refusal: u32,
+    pub place: u32,
+    pub touched: u64,
+    pub rows: u32,
 }
 
 // An image write's refusal, and the length of the image.
@@ -170,6 +184,38 @@ pub extern "C" fn hall_delete(
     ensures { λ r. ⌜ Handed (record { n = n; ask = edit (record { kind = Delete; u = u; v = v; cost = 0 }) }) (found cost time ways share score) (left cost time ways share score) (ofEdited r) ⌝ }
 {
     edited(n, Kind::Delete, u, v, 0, cost, time, ways, share, score)
+}
+
+// A list of edits, four numbers each. One of the first 32 that has another kind or is cut short is told, and then nothing is done.
+#[no_mangle]
+pub extern "C" fn hall_edit_numbers(
+    n: u64,
+    list: &[u64],
+    cost: &mut [u32],
+    time: &mut [u32],
+    ways: &mut [u32],
+    share: &mut [u64],
+    score: &mut [u64],
+) -> HallListed
+    ensures { λ r. ⌜ HandedList n (now (list .entry)) (found cost time ways share score) (left cost time ways share score) r ⌝ }
+{
+    let other = other_kind(list);
+    if other != 0 {
+        return HallListed {
+            refusal: NO_KIND,
+            place: other as u32,
+            touched: 0,
+            rows: 0,
+        };
+    }
+    let done = edit_flat(n, list, cost, time, ways, share, score);
+    let refusal = done.refusal;
+    HallListed {
+        refusal: number_of(refusal),
+        place: done.place,
+        touched: done.touched,
+        rows: done.rows,
+    }
 }
 
 #[no_mangle]

@@ -25,10 +25,11 @@ fn links() -> Tables {
     t
 }
 
-fn insert_links(before: Inserts) -> Inserts {
+// Inserts the first links of a line, in a hall of n stops.
+pub fn insert_links(n: u64, count: u64, before: Inserts) -> Inserts {
     let mut inserts = before;
-    for u in 0u64..63 {
-        inserts = inserted(64, u, u + 1, 65535, inserts);
+    for u in 0..count {
+        inserts = inserted(n, u, std::num::wrapping_add_u64(u, 1), 65535, inserts);
     }
     inserts
 }
@@ -48,7 +49,7 @@ fn made() -> Tables {
     report::pair(63, t);
     some_scores(t);
     let empty = report::empty_hall(b"inserts: empty hall ", 64, filled(0, 0));
-    reached(64, insert_links(no_inserts(empty)), t);
+    reached(64, insert_links(64, 63, no_inserts(empty)), t);
     t
 }
 

@@ -3,15 +3,19 @@
 use super::tables;
 use calls::answer::Answer;
 use calls::call::Call;
+use calls::call::DELETE;
 use calls::compare::differing;
 use calls::compare::sum;
 use calls::compare::unlike;
 use calls::entries::at;
 use calls::entries::at_long;
 use calls::entries::put;
+use calls::list::List;
+use calls::list::edit_at;
 use calls::tables::CELLS;
 use calls::tables::Tables;
 use calls::tables::cells;
+use calls::tables::link;
 use calls::tables::place;
 use make_call::Done;
 
@@ -92,4 +96,44 @@ pub fn unlisted(call: Call, before: Tables, after: Tables, done: Done) -> u64 {
     }
     let left = done.tables;
     std::num::wrapping_add_u64(answers, unlisted_tables(call.n, after, left))
+}
+
+// The tables before a list with the costs that its edits leave, and the sources that these touch.
+pub struct Passed {
+    pub tables: Tables,
+    pub touched: u64,
+}
+
+// The cost that an edit gives its link, 0 for none.
+fn cost_set(call: Call) -> u64 {
+    if call.number == DELETE { 0 } else { call.cost }
+}
+
+// One edit more.
+fn step(call: Call, before: Passed) -> Passed {
+    let t = before.tables;
+    let tables = link(call.n, call.u, call.v, cost_set(call), t);
+    let set = lister::touched(&t.cost, &tables.cost, call.n, call.u, call.v);
+    Passed {
+        tables,
+        touched: before.touched | set,
+    }
+}
+
+// After the first edits of a list.
+pub fn after(n: u64, list: List, count: usize, t: Tables) -> Passed {
+    let mut passed = Passed {
+        tables: t,
+        touched: 0,
+    };
+    for i in 0..count {
+        passed = step(edit_at(list, n, i), passed);
+    }
+    passed
+}
+
+// How many of an answer's set and number are not those of a union.
+pub fn unlisted_set(set: u64, answer: Answer) -> u64 {
+    let rows = unlike(answer.rows, lister::number(set));
+    std::num::wrapping_add_u64(unlike(answer.touched, set), rows)
 }

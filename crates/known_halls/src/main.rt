@@ -2,6 +2,7 @@
 // and leave against the slow lister, and writes both.
 mod line;
 mod listed;
+mod lists;
 mod report;
 mod sizes;
 mod smallest;
@@ -18,6 +19,9 @@ fn main() {
     sums::none_in_16_bits();
     sums::right_in_16_bits();
     line::longest();
+    lists::shift_change();
+    lists::most_edits();
+    lists::in_passing();
     sizes::too_large();
     smallest::no_links();
 }

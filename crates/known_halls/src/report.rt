@@ -7,6 +7,7 @@ use super::text::field;
 use super::text::say;
 use calls::call::AUDIT;
 use calls::call::Call;
+use calls::call::EDIT_LIST;
 use calls::call::EMPTY_HALL;
 use calls::call::IMAGE_READ;
 use calls::call::IMAGE_WRITE;
@@ -14,6 +15,8 @@ use calls::call::INSERT;
 use calls::call::WORK_OUT;
 use calls::call::plain;
 use calls::compare::differing;
+use calls::list::List;
+use calls::list::no_edits;
 use calls::tables::Tables;
 use calls::tables::filled;
 use calls::tables::link;
@@ -24,7 +27,7 @@ use make_call::make;
 // Makes a call that writes no image.
 fn made(call: Call, image: &[u8], t: Tables) -> Done {
     let mut none = [0u8; 1];
-    make(call, call.n, 0, image, &mut none, t)
+    make(call, no_edits(), call.n, 0, image, &mut none, t)
 }
 
 // Holds a call against the lister. An accepted one is to leave the costs `wanted` and their listed
@@ -104,13 +107,36 @@ pub fn edit(name: &[u8], number: u64, n: u64, u: u64, v: u64, cost: u64, t: Tabl
     )
 }
 
+// How many edits of a list were judged.
+fn judged(length: usize, refusal: u64, place: u64) -> usize {
+    if refusal == 0 { length } else { place as usize }
+}
+
+// A list of edits. One refused at an edit with 11 would have passed the costs that this edit leaves.
+pub fn list(name: &[u8], n: u64, list: List, t: Tables) -> Tables {
+    let mut none = [0u8; 1];
+    let done = make(plain(EDIT_LIST, n), list, n, 0, b"-", &mut none, t);
+    let answer = done.answer;
+    let left = done.tables;
+    field(name, answer.refusal);
+    field(b", place ", answer.place);
+    field(b", touched ", answer.touched);
+    field(b", rows ", answer.rows);
+    let count = judged(list.length, answer.refusal, answer.place);
+    let passed = listed::after(n, list, count, t);
+    let unlisted = listed::unlisted_set(passed.touched, answer);
+    let wanted = passed.tables;
+    held(n, answer.refusal, unlisted, wanted, left);
+    left
+}
+
 pub fn audit(n: u64, t: Tables) {
     let answer = made(plain(AUDIT, n), b"-", t).answer;
     field(b", audit ", answer.refusal);
 }
 
 pub fn image_write(name: &[u8], n: u64, t: Tables, buffer: &mut [u8]) {
-    let answer = make(plain(IMAGE_WRITE, n), n, 0, b"-", buffer, t).answer;
+    let answer = make(plain(IMAGE_WRITE, n), no_edits(), n, 0, b"-", buffer, t).answer;
     field(name, answer.refusal);
     field(b", length ", answer.length);
 }

@@ -1,4 +1,5 @@
 // A hall of 65 stops, which no call takes. Every entry and byte is 7 at first.
+use super::lists;
 use super::report;
 use super::text;
 use super::text::end;
@@ -26,7 +27,9 @@ fn edits(t: Tables) -> Tables {
     end();
     let dearer = report::edit(b"raise 0 1: ", RAISE, 65, 0, 1, 5, cheaper);
     end();
-    let left = report::edit(b"delete 0 1: ", DELETE, 65, 0, 1, 0, dearer);
+    let less = report::edit(b"delete 0 1: ", DELETE, 65, 0, 1, 0, dearer);
+    end();
+    let left = report::list(b"33 inserts: ", 65, lists::inserts(33), less);
     end();
     left
 }

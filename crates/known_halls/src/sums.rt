@@ -1,5 +1,6 @@
 // Halls of many ways at each stop: every stop has links to all later ones, of the cost of their distance, so that all routes
 // forward tie, and the ways double from stop to stop.
+use super::lists;
 use super::report;
 use super::text::end;
 use super::text::say;
@@ -66,5 +67,8 @@ pub fn right_in_16_bits() {
     end();
     let left = report::edit(b"delete 0 5: ", DELETE, 6, 0, 5, 0, wrong);
     report::same(left, wrong);
+    end();
+    let last = report::list(b"33 inserts: ", 6, lists::inserts(33), left);
+    report::same(last, wrong);
     end();
 }

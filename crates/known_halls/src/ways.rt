@@ -19,7 +19,7 @@ fn way(n: u64, last: u64, m: u64, t: Tables) -> Tables {
 }
 
 // The links of all ways, in tables of entries 0.
-fn fan(n: u64, last: u64) -> Tables {
+pub fn fan(n: u64, last: u64) -> Tables {
     let mut t = filled(0, 0);
     for m in 1..last {
         t = way(n, last, m, t);

@@ -1,12 +1,14 @@
 // Makes a call, on the parts of tables by value that a hall has.
 use calls::answer::Answer;
 use calls::answer::of_edit;
+use calls::answer::of_list;
 use calls::answer::of_refusal;
 use calls::answer::of_write;
 use calls::call::AUDIT;
 use calls::call::CHEAPEN;
 use calls::call::Call;
 use calls::call::DELETE;
+use calls::call::EDIT_LIST;
 use calls::call::EMPTY_HALL;
 use calls::call::IMAGE_READ;
 use calls::call::IMAGE_WRITE;
@@ -16,10 +18,13 @@ use calls::call::WORK_OUT;
 use calls::call::edit_of;
 use calls::lengths::single;
 use calls::lengths::square;
+use calls::list::List;
+use calls::list::numbers_of;
 use calls::tables::CELLS;
 use calls::tables::STOPS;
 use calls::tables::Tables;
 use edits::edit::edit;
+use flat_list::edit_flat;
 use hall::audit::audit;
 use hall::empty_hall::empty_hall;
 use hall::work_out::work_out;
@@ -38,14 +43,15 @@ pub struct Done {
 
 // An image check, which takes no tables.
 pub fn check(image: &[u8], n: u64) -> Answer
-    ensures { λ a. ⌜ (a .refusal ≡ number (imageCheck n (now (image .entry)))) × (a .touched ≡ 0) × (a .rows ≡ 0) × (a .before ≡ 0) × (a .length ≡ 0) ⌝ }
+    ensures { λ a. ⌜ (a .refusal ≡ number (imageCheck n (now (image .entry)))) × (a .touched ≡ 0) × (a .rows ≡ 0) × (a .before ≡ 0) × (a .place ≡ 0) × (a .length ≡ 0) ⌝ }
 {
     of_refusal(image_check(image, n))
 }
 
-// On lent tables. An image read and an image check take the image, an image write the buffer.
+// On lent tables. A list call takes the list, an image read and an image check the image, an image write the buffer.
 fn on_lent(
     call: Call,
+    list: &[u64],
     image: &[u8],
     buffer: &mut [u8],
     cost: &mut [u32],
@@ -63,6 +69,7 @@ fn on_lent(
         INSERT | CHEAPEN | RAISE | DELETE => {
             of_edit(edit(n, edit_of(call), cost, time, ways, share, score))
         }
+        EDIT_LIST => of_list(edit_flat(n, list, cost, time, ways, share, score)),
         IMAGE_WRITE => of_write(image_write(n, cost, time, ways, share, score, buffer)),
         IMAGE_READ => of_refusal(image_read(n, image, cost, time, ways, share, score)),
         _ => check(image, n),
@@ -74,6 +81,7 @@ fn on_parts(
     call: Call,
     stops: u64,
     odd: u64,
+    list: &[u64],
     image: &[u8],
     buffer: &mut [u8],
     cost: &mut [u32],
@@ -91,6 +99,7 @@ fn on_parts(
     let e = single(stops, odd);
     on_lent(
         call,
+        list,
         image,
         buffer,
         &mut cost[0..p],
@@ -106,6 +115,7 @@ fn on_arrays(
     call: Call,
     stops: u64,
     odd: u64,
+    list: &[u64],
     image: &[u8],
     buffer: &mut [u8],
     cost: &mut [u32; CELLS],
@@ -118,6 +128,7 @@ fn on_arrays(
         call,
         stops,
         odd,
+        list,
         image,
         buffer,
         cost,
@@ -128,8 +139,27 @@ fn on_arrays(
     )
 }
 
+// The first k numbers, or all where there are fewer.
+fn first(numbers: &[u64], k: usize) -> &[u64] {
+    if k <= numbers.len() {
+        &numbers[0..k]
+    } else {
+        numbers
+    }
+}
+
 // On tables of a hall of so many stops, of which at most one is lent at an odd length.
-pub fn make(call: Call, stops: u64, odd: u64, image: &[u8], buffer: &mut [u8], t: Tables) -> Done {
+pub fn make(
+    call: Call,
+    list: List,
+    stops: u64,
+    odd: u64,
+    image: &[u8],
+    buffer: &mut [u8],
+    t: Tables,
+) -> Done {
+    let k = numbers_of(list.length);
+    let numbers = list.numbers;
     let mut cost = t.cost;
     let mut time = t.time;
     let mut ways = t.ways;
@@ -139,6 +169,7 @@ pub fn make(call: Call, stops: u64, odd: u64, image: &[u8], buffer: &mut [u8], t
         call,
         stops,
         odd,
+        first(&numbers, k),
         image,
         buffer,
         &mut cost,

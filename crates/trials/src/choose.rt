@@ -4,6 +4,7 @@ use super::chance::costs;
 use super::chance::draw;
 use super::chance::once_in;
 use super::chance::some_cost;
+use super::draft;
 use super::image;
 use super::image::Image;
 use super::outcome::Ask;
@@ -16,6 +17,7 @@ use calls::call::AUDIT;
 use calls::call::CHEAPEN;
 use calls::call::Call;
 use calls::call::DELETE;
+use calls::call::EDIT_LIST;
 use calls::call::EMPTY_HALL;
 use calls::call::IMAGE_CHECK;
 use calls::call::IMAGE_READ;
@@ -28,13 +30,15 @@ use calls::entries::at;
 use calls::entries::at_long;
 use calls::entries::put;
 use calls::entries::put_long;
+use calls::list::List;
+use calls::list::no_edits;
 use calls::tables;
 use calls::tables::Tables;
 use calls::tables::cells;
 use calls::tables::place;
 use std::num::wrapping_add_u64;
 
-pub struct Pair(u64, u64);
+pub struct Pair(pub u64, pub u64);
 
 // The number of stops of a hall, one to seven.
 pub fn stops(seed: &mut u64) -> u64 {
@@ -50,19 +54,20 @@ pub fn stops(seed: &mut u64) -> u64 {
     }
 }
 
-// Which call comes next: of 29, seventeen are edits, and the last is an empty hall or an insert.
+// Which call comes next: of 31, seventeen are edits and two are lists, and the last is an empty hall or an insert.
 pub fn call(seed: &mut u64) -> u64 {
-    let x = draw(seed, 29);
+    let x = draw(seed, 31);
     match x {
         0..=4 => INSERT,
         5..=8 => CHEAPEN,
         9..=12 => RAISE,
         13..=16 => DELETE,
-        17..=19 => WORK_OUT,
-        20 | 21 => AUDIT,
-        22 | 23 => IMAGE_WRITE,
-        24..=26 => IMAGE_READ,
-        27 => IMAGE_CHECK,
+        17 | 18 => EDIT_LIST,
+        19..=21 => WORK_OUT,
+        22 | 23 => AUDIT,
+        24 | 25 => IMAGE_WRITE,
+        26..=28 => IMAGE_READ,
+        29 => IMAGE_CHECK,
         _ => if once_in(seed, 4) { EMPTY_HALL } else { INSERT },
     }
 }
@@ -126,7 +131,7 @@ fn two(seed: &mut u64, stops: u64) -> Pair {
 }
 
 // Whether an edit may be accepted where the present cost is this.
-fn suits(call: u64, present: u64) -> bool {
+pub fn suits(call: u64, present: u64) -> bool {
     if call == INSERT {
         return present == 0;
     }
@@ -151,7 +156,7 @@ fn near(seed: &mut u64, present: u64) -> u64 {
 }
 
 // Any cost.
-fn price(seed: &mut u64, u: u64, v: u64) -> u64 {
+pub fn price(seed: &mut u64, u: u64, v: u64) -> u64 {
     let x = draw(seed, 24);
     match x {
         0 => 0,
@@ -301,12 +306,21 @@ fn table(seed: &mut u64, call: u64, stops: u64) -> [u32; CELLS] {
     [0; CELLS]
 }
 
+// The list of a call.
+fn list(seed: &mut u64, call: u64, stops: u64, cost: [u32; CELLS]) -> List {
+    if call == EDIT_LIST {
+        return draft::list(seed, stops, cost);
+    }
+    no_edits()
+}
+
 // The call with its arguments, on a hall with these costs.
 pub fn ask(seed: &mut u64, number: u64, stops: u64, cost: [u32; CELLS]) -> Ask {
     let ends = ends(seed, number, stops, &cost);
     let image = bytes(seed, number, stops, cost);
     let bytes = image.bytes;
     let table = table(seed, number, stops);
+    let list = list(seed, number, stops, cost);
     let present = at(&cost, place(stops, ends.0, ends.1));
     let n = size(seed, stops);
     let odd = odd(seed);
@@ -320,6 +334,7 @@ pub fn ask(seed: &mut u64, number: u64, stops: u64, cost: [u32; CELLS]) -> Ask {
     Ask {
         call,
         odd,
+        list,
         cost: table,
         bytes,
         length: image.length,
@@ -338,6 +353,7 @@ fn opposite(number: u64) -> u64 {
 // The edit that reverses an accepted one: the opposite one of the same link, at the cost that it answered.
 pub fn reversal(ask: Ask, answer: Answer) -> Ask {
     let made = ask.call;
+    let list = ask.list;
     let cost = ask.cost;
     let bytes = ask.bytes;
     let call = Call {
@@ -350,6 +366,7 @@ pub fn reversal(ask: Ask, answer: Answer) -> Ask {
     Ask {
         call,
         odd: ask.odd,
+        list,
         cost,
         bytes,
         length: ask.length,
@@ -364,6 +381,7 @@ pub fn start(stops: u64) -> Ask {
     Ask {
         call,
         odd: 0,
+        list: no_edits(),
         cost,
         bytes,
         length: 0,

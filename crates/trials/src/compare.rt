@@ -40,6 +40,36 @@ pub fn with_book(n: u64, t: Tables, book: Book) -> u64 {
     )
 }
 
+// The entries behind the first ones of two tables of 32 bits.
+fn short_behind(a: &[u32], b: &[u32], from: usize) -> u64 {
+    let mut differ = 0;
+    for i in from..a.len() {
+        differ = wrapping_add_u64(differ, unlike(at(a, i), at(b, i)));
+    }
+    differ
+}
+
+// The same of two tables of 64 bits.
+fn long_behind(a: &[u64], b: &[u64], from: usize) -> u64 {
+    let mut differ = 0;
+    for i in from..a.len() {
+        differ = wrapping_add_u64(differ, unlike(at_long(a, i), at_long(b, i)));
+    }
+    differ
+}
+
+// What five tables have behind the entries of a hall of n stops, against five others.
+fn behind(n: u64, t: Tables, o: Tables) -> u64 {
+    let k = cells(n);
+    sum(
+        short_behind(&t.cost, &o.cost, k),
+        short_behind(&t.time, &o.time, k),
+        short_behind(&t.ways, &o.ways, k),
+        long_behind(&t.share, &o.share, k),
+        long_behind(&t.score, &o.score, stops(n)),
+    )
+}
+
 // Whether tables are not those of their own costs, or these are refused.
 pub fn wrong(n: u64, t: Tables, seen: Book) -> bool {
     if model::bad_costs(n, &seen.cost) {
@@ -70,14 +100,14 @@ pub fn reversed(former: Tables, undone: Answer, left: Tables, answer: Answer) ->
     )
 }
 
-// An outcome against its verdict. An accepted call leaves the tables of the book; a refused one leaves
-// them as they were.
+// An outcome against its verdict. An accepted call leaves the tables of the book, and what stands behind them; a refused one
+// leaves all as it was.
 pub fn differences(n: u64, former: Tables, outcome: Outcome, verdict: Verdict) -> u64 {
     let left = outcome.tables;
     let book = verdict.book;
     let right = verdict.answer;
     let tables = if right.refusal == 0 {
-        with_book(n, left, book)
+        wrapping_add_u64(with_book(n, left, book), behind(n, left, former))
     } else {
         differing(left, former)
     };

@@ -3,16 +3,20 @@
 mod chance;
 mod choose;
 mod compare;
+mod draft;
 mod image;
+mod in_turn;
 mod model;
 mod outcome;
 mod places;
 mod tally;
 
 use calls::answer::Answer;
+use calls::call::EDIT_LIST;
 use calls::call::IMAGE_CHECK;
 use calls::call::WORK_OUT;
 use calls::call::is_edit;
+use calls::compare::differing;
 use calls::tables::Tables;
 use calls::tables::filled;
 use chance::draw;
@@ -48,6 +52,20 @@ fn note(tally: &mut [u64; ROOM], call: u64, answer: Answer, differ: u64, ties: b
     }
 }
 
+// Counts a list: its length, the place of its refused edit, and whether it undid all that it did.
+fn note_list(tally: &mut [u64; ROOM], length: usize, answer: Answer, former: Tables, left: Tables) {
+    tally::add_list(tally, length, answer);
+    if answer.refusal != 0 {
+        return;
+    }
+    if length == 0 {
+        return;
+    }
+    if differing(left, former) == 0 {
+        add(tally, tally::UNDONE, 1);
+    }
+}
+
 // Makes a call, and counts what comes of it.
 fn trial(
     tally: &mut [u64; ROOM],
@@ -67,6 +85,9 @@ fn trial(
     let differ = compare::differences(stops, tables, made, verdict);
     let ties = !refused & model::crowded(stops, &next.ways, 1);
     note(tally, ask.call.number, answer, differ, ties);
+    if ask.call.number == EDIT_LIST {
+        note_list(tally, ask.list.length, answer, tables, left);
+    }
     State {
         book: next,
         hall: left,

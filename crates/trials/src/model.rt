@@ -2,6 +2,7 @@
 // tables of these links.
 use super::image;
 use super::image::Image;
+use super::in_turn;
 use super::outcome::Ask;
 use super::places::BYTES;
 use super::places::CELLS;
@@ -13,6 +14,7 @@ use calls::call::AUDIT;
 use calls::call::CHEAPEN;
 use calls::call::Call;
 use calls::call::DELETE;
+use calls::call::EDIT_LIST;
 use calls::call::EMPTY_HALL;
 use calls::call::IMAGE_CHECK;
 use calls::call::IMAGE_READ;
@@ -81,8 +83,10 @@ pub fn bad_costs(n: u64, cost: &[u32; CELLS]) -> bool {
     bad
 }
 
-// The most ways of a pair.
+// The most ways of a pair, and the most edits of a list.
 pub const WAYS: u64 = 22;
+
+const EDITS: usize = 32;
 
 // Whether a pair has more ways than a limit.
 pub fn crowded(n: u64, ways: &[u64; CELLS], limit: u64) -> bool {
@@ -126,7 +130,7 @@ fn wrong_side(call: Call, present: u64) -> bool {
 }
 
 // Refusals 4 to 8 of an edit, where the present cost is 0 for no link.
-fn edit_refusal(call: Call, present: u64) -> u64 {
+pub fn edit_refusal(call: Call, present: u64) -> u64 {
     if bad_pair(call) {
         return 4;
     }
@@ -191,18 +195,24 @@ fn write_refusal(ask: Ask, stops: u64, cost: [u32; CELLS]) -> u64 {
     if ask.length < image.length { 10 } else { 0 }
 }
 
-// Refusals 4 to 8 and 10, of the calls that audit the tables.
+// Refusal 12 of a list of edits.
+fn list_refusal(ask: Ask) -> u64 {
+    if EDITS < ask.list.length { 12 } else { 0 }
+}
+
+// Refusals 4 to 8, 10 and 12, of the calls that audit the tables; a list's edits are judged in their turn.
 fn held_refusal(ask: Ask, stops: u64, cost: [u32; CELLS]) -> u64 {
     let call = ask.call;
     let number = call.number;
     match number {
         AUDIT => 0,
+        EDIT_LIST => list_refusal(ask),
         IMAGE_WRITE => write_refusal(ask, stops, cost),
         _ => edit_refusal(call, at(&cost, place(stops, call.u, call.v))),
     }
 }
 
-// Refusals 1 to 10, by rising number; `wrong` says that the tables are not those of their hall.
+// Refusals 1 to 10 and 12, by rising number; `wrong` says that the tables are not those of their hall.
 fn refusal(ask: Ask, stops: u64, cost: [u32; CELLS], wrong: bool) -> u64 {
     let call = ask.call;
     let size = size_refusal(call, ask.odd, stops);
@@ -219,6 +229,16 @@ fn refusal(ask: Ask, stops: u64, cost: [u32; CELLS], wrong: bool) -> u64 {
         } else {
             held_refusal(ask, stops, cost)
         },
+    }
+}
+
+// The costs that an edit leaves where it is accepted.
+pub fn edited_costs(call: Call, stops: u64, cost: [u32; CELLS]) -> [u32; CELLS] {
+    let at = place(stops, call.u, call.v);
+    if call.number == DELETE {
+        with(cost, at, 0)
+    } else {
+        with(cost, at, call.cost)
     }
 }
 
@@ -240,8 +260,7 @@ fn costs_after(ask: Ask, stops: u64, cost: [u32; CELLS]) -> [u32; CELLS] {
             };
             image::read(stops, image)
         }
-        DELETE => with(cost, place(stops, call.u, call.v), 0),
-        _ => with(cost, place(stops, call.u, call.v), call.cost),
+        _ => edited_costs(call, stops, cost),
     }
 }
 
@@ -310,6 +329,17 @@ fn changed(ask: Ask, stops: u64, book: Book) -> Verdict {
     }
 }
 
+// What an edit must answer and leave that fails none of the tests 1 to 3.
+pub fn edited(ask: Ask, stops: u64, book: Book) -> Verdict {
+    let cost = book.cost;
+    let call = ask.call;
+    let early = edit_refusal(call, at(&cost, place(stops, call.u, call.v)));
+    if early != 0 {
+        return refused(early, ask, book);
+    }
+    changed(ask, stops, book)
+}
+
 // What the call must answer and leave.
 pub fn expect(ask: Ask, stops: u64, book: Book, wrong: bool) -> Verdict {
     let cost = book.cost;
@@ -321,6 +351,7 @@ pub fn expect(ask: Ask, stops: u64, book: Book, wrong: bool) -> Verdict {
     match number {
         AUDIT | IMAGE_CHECK => refused(0, ask, book),
         IMAGE_WRITE => wrote(ask, stops, book),
+        EDIT_LIST => in_turn::listed(ask, stops, book),
         _ => changed(ask, stops, book),
     }
 }

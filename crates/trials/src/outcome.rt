@@ -4,16 +4,22 @@ use super::places::CELLS;
 use calls::answer::Answer;
 use calls::call::Call;
 use calls::call::WORK_OUT;
+use calls::entries::at;
+use calls::entries::put;
+use calls::list::List;
+use calls::tables;
 use calls::tables::Tables;
+use calls::tables::cells;
 use make_call::Done;
 use make_call::make;
 ghost use Prim.Native.Nat.{_≤_};
 
-// A call, with the table that it lends at an odd length, the cost table of a work out, and the image or
+// A call, with the table that it lends at an odd length, the list of edits, the cost table of a work out, and the image or
 // the buffer with its length.
 pub struct Ask {
     pub call: Call,
     pub odd: u64,
+    pub list: List,
     pub cost: [u32; CELLS],
     pub bytes: [u8; BYTES],
     pub length: usize,
@@ -35,6 +41,7 @@ fn least(x: usize, y: usize) -> usize
 // Makes a call with the first bytes of an image and of a buffer.
 fn made(
     call: Call,
+    list: List,
     stops: u64,
     odd: u64,
     length: usize,
@@ -44,15 +51,22 @@ fn made(
 ) -> Done {
     let k = least(length, image.len());
     let l = least(length, buffer.len());
-    make(call, stops, odd, &image[0..k], &mut buffer[0..l], t)
+    make(call, list, stops, odd, &image[0..k], &mut buffer[0..l], t)
 }
 
-// The tables with their first costs from another table.
-fn with_costs(cost: &[u32; CELLS], t: Tables) -> Tables {
-    let mut next = t;
-    for i in 0..CELLS {
-        next.cost[i] = cost[i];
+// Takes the first costs over from another table.
+fn put_costs(from: &[u32; CELLS], count: usize, cost: &mut [u32; tables::CELLS]) {
+    for i in 0..count {
+        put(cost, i, at(from, i));
     }
+}
+
+// The tables with the costs of a hall of so many stops from another table.
+fn with_costs(from: &[u32; CELLS], stops: u64, t: Tables) -> Tables {
+    let mut cost = t.cost;
+    put_costs(from, cells(stops), &mut cost);
+    let mut next = t;
+    next.cost = cost;
     next
 }
 
@@ -66,11 +80,11 @@ pub fn costs(t: Tables) -> [u32; CELLS] {
 }
 
 // The tables that a call is made on: a work out's cost table is the one that it brings.
-fn brought(ask: Ask, t: Tables) -> Tables {
+fn brought(ask: Ask, stops: u64, t: Tables) -> Tables {
     if ask.call.number != WORK_OUT {
         return t;
     }
-    with_costs(&ask.cost, t)
+    with_costs(&ask.cost, stops, t)
 }
 
 // The tables after a call: those of a refused work out have the hall's costs again.
@@ -90,16 +104,18 @@ fn left(ask: Ask, refusal: u64, former: Tables, tables: Tables) -> Tables {
 // Makes the call on the tables of a hall of so many stops.
 pub fn asked(ask: Ask, stops: u64, t: Tables) -> Outcome {
     let call = ask.call;
+    let list = ask.list;
     let image = ask.bytes;
     let mut bytes = ask.bytes;
     let done = made(
         call,
+        list,
         stops,
         ask.odd,
         ask.length,
         &image,
         &mut bytes,
-        brought(ask, t),
+        brought(ask, stops, t),
     );
     let answer = done.answer;
     let after = done.tables;

@@ -1,8 +1,10 @@
 // What is counted: the refusals of each call, and what was compared.
+use calls::answer::Answer;
 use calls::call::AUDIT;
 use calls::call::CALLS;
 use calls::call::CHEAPEN;
 use calls::call::DELETE;
+use calls::call::EDIT_LIST;
 use calls::call::EMPTY_HALL;
 use calls::call::IMAGE_CHECK;
 use calls::call::IMAGE_READ;
@@ -11,9 +13,10 @@ use calls::call::INSERT;
 use calls::call::RAISE;
 use calls::call::WORK_OUT;
 use std::num::wrapping_add_u64;
+use std::num::wrapping_add_usize;
 
-// The refusals 0 to 11 of each call, and behind them the other counts.
-const REFUSALS: usize = 12;
+// The refusals 0 to 12 of each call, and behind them the other counts.
+const REFUSALS: usize = 13;
 
 pub const SEQUENCES: usize = REFUSALS * CALLS;
 
@@ -23,7 +26,7 @@ pub const TABLES: usize = SEQUENCES + 2;
 
 pub const DIFFERENCES: usize = SEQUENCES + 3;
 
-// The sources that accepted edits touched, and the accepted calls that leave a pair of several ways.
+// The sources that accepted edits and lists touched, and the accepted calls that leave a pair of several ways.
 pub const TOUCHED: usize = SEQUENCES + 4;
 
 pub const TIES: usize = SEQUENCES + 5;
@@ -37,7 +40,25 @@ pub const FIRST: usize = SEQUENCES + 7;
 // Accepted edits that the next call reversed, by call.
 const REVERSED: usize = SEQUENCES + 8;
 
-pub const ROOM: usize = REVERSED + CALLS;
+// Accepted lists by the number of their edits, 0 to 34, and then those that were too long.
+const ACCEPTED: usize = REVERSED + CALLS;
+
+const LENGTHS: usize = 35;
+
+const TOO_LONG: usize = ACCEPTED + LENGTHS;
+
+// Lists by the place of the refused edit, 0 to 32.
+const REFUSED: usize = TOO_LONG + LENGTHS;
+
+const PLACES: usize = 33;
+
+// Accepted lists, not empty, that left the tables as they were.
+pub const UNDONE: usize = REFUSED + PLACES;
+
+// Lists refused with 11 behind their first edit: too many ways in passing.
+const PASSING: usize = UNDONE + 1;
+
+pub const ROOM: usize = PASSING + 1;
 
 pub fn add(tally: &mut [u64; ROOM], i: usize, x: u64) {
     if i < ROOM {
@@ -71,6 +92,47 @@ fn reversed(call: u64) -> usize {
 
 pub fn add_reversed(tally: &mut [u64; ROOM], call: u64) {
     add(tally, reversed(call), 1);
+}
+
+// Counts one more at a place behind a start, of so many places.
+fn add_at(tally: &mut [u64; ROOM], start: usize, i: u64, places: usize) {
+    if i < places as u64 {
+        add(tally, wrapping_add_usize(start, i as usize), 1);
+    }
+}
+
+// Counts a list of so many edits.
+pub fn add_list(tally: &mut [u64; ROOM], length: usize, answer: Answer) {
+    add_at(tally, REFUSED, answer.place, PLACES);
+    if answer.refusal == 0 {
+        add_at(tally, ACCEPTED, length as u64, LENGTHS);
+    }
+    if (answer.refusal == 11) & (1 < answer.place) {
+        add(tally, PASSING, 1);
+    }
+    if answer.refusal == 12 {
+        add_at(tally, TOO_LONG, length as u64, LENGTHS);
+    }
+}
+
+// The counts from one place up to another.
+fn between(tally: &[u64; ROOM], from: usize, to: usize) -> u64 {
+    let mut sum = 0;
+    for i in from..to {
+        sum = wrapping_add_u64(sum, count(tally, i));
+    }
+    sum
+}
+
+// How many of them are not 0.
+fn met(tally: &[u64; ROOM], from: usize, to: usize) -> u64 {
+    let mut sum = 0u64;
+    for i in from..to {
+        if 0 < count(tally, i) {
+            sum = wrapping_add_u64(sum, 1);
+        }
+    }
+    sum
 }
 
 // Where the tally has a refusal of a call.
@@ -114,14 +176,55 @@ fn refusals(tally: &[u64; ROOM]) {
     }
 }
 
-// Writes a line of the refusals 0 to 11 of a call.
-fn refusals_of(name: &[u8], tally: &[u64; ROOM], call: u64) {
+// Writes a line of the counts from one place up to another.
+fn counts(name: &[u8], tally: &[u64; ROOM], from: usize, to: usize) {
     io::write_all(1, name);
-    for refusal in 0..REFUSALS {
+    for i in from..to {
         io::write_all(1, b" ");
-        io::print_decimal(1, count(tally, place(call, refusal)));
+        io::print_decimal(1, count(tally, i));
     }
     io::write_all(1, b"\n");
+}
+
+// Writes a line of the refusals 0 to 12 of a call.
+fn refusals_of(name: &[u8], tally: &[u64; ROOM], call: u64) {
+    let start = place(call, 0);
+    counts(name, tally, start, wrapping_add_usize(start, REFUSALS));
+}
+
+// Writes what lists were met.
+fn lists(tally: &[u64; ROOM]) {
+    line(b"accepted lists of 0 edits", count(tally, ACCEPTED));
+    line(b"accepted lists of 1 edit", count(tally, ACCEPTED + 1));
+    line(
+        b"accepted lists of 2 to 8 edits",
+        between(tally, ACCEPTED + 2, ACCEPTED + 9),
+    );
+    line(
+        b"accepted lists of 9 to 31 edits",
+        between(tally, ACCEPTED + 9, ACCEPTED + 32),
+    );
+    line(b"accepted lists of 32 edits", count(tally, ACCEPTED + 32));
+    line(
+        b"accepted lists that undo all they did",
+        count(tally, UNDONE),
+    );
+    line(
+        b"lists refused with 11 behind their first edit",
+        count(tally, PASSING),
+    );
+    line(b"lists too long, of 33 edits", count(tally, TOO_LONG + 33));
+    line(b"lists too long, of 34 edits", count(tally, TOO_LONG + 34));
+    counts(
+        b"lists refused at edits 1 to 32",
+        tally,
+        REFUSED + 1,
+        REFUSED + PLACES,
+    );
+    line(
+        b"places of refused edits",
+        met(tally, REFUSED + 1, REFUSED + PLACES),
+    );
 }
 
 pub fn write(tally: &[u64; ROOM]) {
@@ -143,9 +246,11 @@ pub fn write(tally: &[u64; ROOM]) {
     refusals_of(b"cheapen", tally, CHEAPEN);
     refusals_of(b"raise", tally, RAISE);
     refusals_of(b"delete", tally, DELETE);
+    refusals_of(b"edit list", tally, EDIT_LIST);
     refusals_of(b"image write", tally, IMAGE_WRITE);
     refusals_of(b"image read", tally, IMAGE_READ);
     refusals_of(b"image check", tally, IMAGE_CHECK);
+    lists(tally);
     line(b"differences", count(tally, DIFFERENCES));
     line(b"first in answer", count(tally, FIRST));
 }

@@ -9,7 +9,7 @@ returns : tie.Need-returns
 returns c =
     let checked : tie.After-image-check = search in
     let e = c .of-refusal .ensures in
-    (e .0 ∙ ap number (checked .image-check .ensures), e .1, e .2, e .3, e .4)
+    (e .0 ∙ ap number (checked .image-check .ensures), e .1, e .2, e .3, e .4, e .5)
 
 pub check-spec : {M : Type 1} → statement M
 check-spec = tie.close (tie.spec (λ c κs. search needs) (λ c κs. search needs) returns)

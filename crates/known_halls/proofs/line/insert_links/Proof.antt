@@ -5,10 +5,10 @@ use Rattle.known_halls.proofs.line.insert_links.Statement.{statement}
 use Rattle.known_halls.proofs.line.insert_links.Tie as tie
 
 abbrev Inv-loop : tie.InvT-loop
-Inv-loop inserts₀ u₀ inserts u = Unit {0}
+Inv-loop n count inserts₀ u₀ inserts u = Unit {0}
 
 abbrev μ-loop : tie.MeasureT-loop
-μ-loop inserts₀ u₀ inserts u = 63 - u
+μ-loop n count inserts₀ u₀ inserts u = count - u
 
 pub insert-links-spec : {M : Type 1} → statement M
 insert-links-spec =

@@ -1,0 +1,85 @@
+-- Which refusals of a list tell a place: those of its edits. Assumes nothing.
+use Prim.Native.Nat.{ℕ, _+_}
+use mathlib.Core.Path.{_≡_, refl}
+use mathlib.Core.Bool.{Bool, true, false, cond, _||_}
+use mathlib.Core.List.{List, [], _∷_}
+use lib.Dec.{eqb, ltb}
+use Rattle.routes.proofs.Booleans.{both}
+use Rattle.book.specs.Hall.{largestCost, mostWays, upTo, entry, validPair, uncrowded}
+use Rattle.book.specs.Call.{number, accepted, need, otherCostTests, costTests, withEdit, editRefusal, Verdict, judged, ofAnEdit}
+use Rattle.book.specs.declared.Edit.{Edit}
+use Rattle.book.specs.declared.Kind.{Kind}
+use Rattle.book.specs.declared.Kind.the-variants.{Insert, Cheapen, Raise, Delete}
+use Rattle.book.specs.declared.Refusal.{Refusal}
+use Rattle.book.specs.declared.Refusal.the-variants.{Accepted, BadSize, BadLength, BadTables, BadStop, BadCost, LinkPresent, LinkAbsent, CostWrongSide, BadImage, ShortBuffer, TooManyWays, ListTooLong}
+
+-- a refusal that is an edit's, or acceptance
+pub record Told (r : Refusal) : Type 0 where
+  pub tells : accepted r ≡ false → ofAnEdit r ≡ true
+
+need-told : (p : Bool) (r : Refusal) {next : Refusal} → ofAnEdit r ≡ true → Told next → Told (need p r next)
+need-told true r e f = f
+need-told false r e f = record { tells = λ shut. e }
+
+accepted-told : Told Accepted
+accepted-told = record { tells = λ shut. absurd (both refl shut) }
+
+other-cost-told : (wanted : Bool) (c present : ℕ) {next : Refusal} → Told next → Told (otherCostTests wanted c present next)
+other-cost-told wanted c present f =
+    need-told (upTo largestCost c) BadCost refl (need-told (ltb 0 present) LinkAbsent refl (need-told wanted CostWrongSide refl f))
+
+cost-told : (k : Kind) (c present : ℕ) {next : Refusal} → Told next → Told (costTests k c present next)
+cost-told Insert c present f = need-told (upTo largestCost c) BadCost refl (need-told (eqb present 0) LinkPresent refl f)
+cost-told Cheapen c present f = other-cost-told (ltb c present) c present f
+cost-told Raise c present f = other-cost-told (ltb present c) c present f
+cost-told Delete c present f = need-told (ltb 0 present) LinkAbsent refl f
+
+pub edit-told : (n : ℕ) (e : Edit) (cost : List ℕ) → Told (editRefusal n e cost)
+edit-told n e cost =
+    need-told (validPair n (e .u) (e .v)) BadStop refl (cost-told (e .kind) (e .cost) (entry n cost (e .u) (e .v)) (need-told (uncrowded mostWays n (withEdit n e cost)) TooManyWays refl accepted-told))
+
+pub judged-told : (n k : ℕ) (edits : List Edit) (cost : List ℕ) → Told (judged n k edits cost .refusal)
+unfolding judged
+judged-told n k [] cost = accepted-told
+judged-told n k (e ∷ rest) cost = go (accepted (editRefusal n e cost)) (judged n (k + 1) rest (withEdit n e cost)) (judged-told n (k + 1) rest (withEdit n e cost))
+  where
+    go : (b : Bool) (later : Verdict) → Told (later .refusal) → Told (cond b later (record { refusal = editRefusal n e cost; place = k }) .refusal)
+    go true later told = told
+    go false later told = edit-told n e cost
+
+-- a list that is refused at an edit tells its place
+pub edit-tells : (n k : ℕ) (edits : List Edit) (cost : List ℕ) → accepted (judged n k edits cost .refusal) ≡ false → ofAnEdit (judged n k edits cost .refusal) ≡ true
+edit-tells n k edits cost shut = judged-told n k edits cost .tells shut
+
+-- for 1, 2, 3 and 12 none is told
+pub none-told : (r : Refusal) (place : ℕ) → (ltb (number r) 4 || eqb (number r) 12) ≡ true → cond (ofAnEdit r) place 0 ≡ 0
+none-told Accepted place e = refl
+none-told BadSize place e = refl
+none-told BadLength place e = refl
+none-told BadTables place e = refl
+none-told BadStop place e = absurd (both e refl)
+none-told BadCost place e = absurd (both e refl)
+none-told LinkPresent place e = absurd (both e refl)
+none-told LinkAbsent place e = absurd (both e refl)
+none-told CostWrongSide place e = absurd (both e refl)
+none-told BadImage place e = absurd (both e refl)
+none-told ShortBuffer place e = absurd (both e refl)
+none-told TooManyWays place e = absurd (both e refl)
+none-told ListTooLong place e = refl
+
+-- one that is refused at no edit has the place 0
+pub accepted-place : (n k : ℕ) (edits : List Edit) (cost : List ℕ) → accepted (judged n k edits cost .refusal) ≡ true → judged n k edits cost .place ≡ 0
+unfolding judged
+accepted-place n k [] cost ok = refl
+accepted-place n k (e ∷ rest) cost ok = go (accepted (editRefusal n e cost)) refl ok (accepted-place n (k + 1) rest (withEdit n e cost))
+  where
+    then : Verdict
+    then = judged n (k + 1) rest (withEdit n e cost)
+
+    stopped : Verdict
+    stopped = record { refusal = editRefusal n e cost; place = k }
+
+    go : (b : Bool) → accepted (editRefusal n e cost) ≡ b → accepted (cond b then stopped .refusal) ≡ true → (accepted (then .refusal) ≡ true → then .place ≡ 0) →
+        cond b then stopped .place ≡ 0
+    go true first ok more = more ok
+    go false first ok more = absurd (both ok first)
