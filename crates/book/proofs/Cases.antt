@@ -14,7 +14,6 @@ use Rattle.book.proofs.Sequence.{stepsOf}
 use Rattle.book.specs.declared.Edit.{Edit}
 use Rattle.book.specs.declared.Kind.{Kind}
 use Rattle.book.specs.declared.Kind.the-variants.{Insert, Cheapen, Raise, Delete}
-use Rattle.book.specs.declared.Refusal.the-variants.{Accepted}
 
 -- document 01's numbers: the largest time, the bound of scores, the mark in 32 bits; 1 to 22 divide the scale, 23 does not
 pub numbers :
@@ -136,34 +135,35 @@ pub reversed-so :
     let back : Call = record { n = 4; ask = edit (reversal Cheapen 2 3 (answer c t)) } in
     let a : Answer = answer back (after c t) in
     (run kept (stepsOf (calls (case 4 diamond [] [] [] [])) (sevens 4)) (sevens 4) ≡ t) × (back .ask ≡ change Raise 2 3 5) ×
-    (after back (after c t) ≡ t) × (a .refusal ≡ Accepted) × (a .touched ≡ 5) × (a .before ≡ 4)
+    (after back (after c t) ≡ t) × (number (a .refusal) ∷ a .touched ∷ a .before ∷ [] ≡ 0 ∷ 5 ∷ 4 ∷ [])
 unfolding sumTo joinTo listTo allTo same setOf count visits uses time least extend hops routes leastTime quickest ways through portion share used score filled sized validCosts uncrowded right touched rule refusal after answer run stepsOf
-reversed-so = (refl, refl, refl, refl, refl, refl)
+reversed-so = (refl, refl, refl, refl)
+
+-- what a list answers: refusal, place, set and number
+abbrev pub told : Answer → List ℕ
+told a = number (a .refusal) ∷ a .place ∷ a .touched ∷ a .rows ∷ []
 
 -- a list whose second edit takes back its first: the rows of 0 and 2 are in the union, and all five tables are as they were
 pub list-back :
     let t : Tables = filled scale 4 even in
     let c : Call = record { n = 4; ask = editList (editOf Cheapen 2 3 4 ∷ editOf Raise 2 3 5 ∷ []) } in
     let a : Answer = answer c t in
-    (a .refusal ≡ Accepted) × (a .place ≡ 0) × (a .touched ≡ 5) × (a .rows ≡ 2) × (after c t ≡ t)
+    (told a ≡ 0 ∷ 0 ∷ 5 ∷ 2 ∷ []) × (after c t ≡ t)
 unfolding sumTo joinTo listTo allTo same setOf count visits uses time least extend hops routes leastTime quickest ways through portion share used score filled sized validCosts uncrowded right touched touchedBy judged rule refusal after answer run
-list-back = (refl, refl, refl, refl, refl)
+list-back = (refl, refl)
 
 -- lists in the book: the hall of P1 in one go; then refused at the second edit, though the first is accepted, and at the first, which its
--- successors would have helped; one with as many edits as a list may have, and one with one more; and one of none
+-- successors would have helped; and on two stops one with as many edits as a list may have, one with one more, and one of none
 pub lists-run :
-    let diamond-list : List Edit = editOf Insert 0 1 5 ∷ editOf Insert 0 2 5 ∷ editOf Insert 1 3 5 ∷ editOf Insert 2 3 5 ∷ [] in
-    let to-and-fro : List Edit = editOf Insert 3 0 1 ∷ editOf Delete 3 0 9 ∷ [] in
-    let asks : List Ask =
-    editList diamond-list ∷ editList (editOf Cheapen 2 3 4 ∷ editOf Insert 0 1 4 ∷ []) ∷ editList (editOf Delete 3 2 0 ∷ editOf Insert 3 2 1 ∷ []) ∷
-    editList (joinTo 16 (λ i. to-and-fro)) ∷ editList (editOf Delete 0 1 0 ∷ joinTo 16 (λ i. to-and-fro)) ∷ editList [] ∷ [] in
-    let calls : List Call = map (λ a. record { n = 4; ask = a }) asks in
-    let said : List Answer = bookAnswers calls (noLinks 4) in
-    (map (λ a. number (a .refusal)) said ≡ 0 ∷ 6 ∷ 7 ∷ 0 ∷ 12 ∷ 0 ∷ []) × (map (λ a. a .place) said ≡ 0 ∷ 2 ∷ 1 ∷ 0 ∷ 0 ∷ 0 ∷ []) ×
-    (map (λ a. a .touched) said ≡ 7 ∷ 0 ∷ 0 ∷ 14 ∷ 0 ∷ 0 ∷ []) × (map (λ a. a .rows) said ≡ 3 ∷ 0 ∷ 0 ∷ 3 ∷ 0 ∷ 0 ∷ []) ×
-    (run bookAfter calls (noLinks 4) .links ≡ even)
+    let said : ℕ → List (List Edit) → List Answer = λ n lists. bookAnswers (map (λ l. record { n = n; ask = editList l }) lists) (noLinks n) in
+    let small : List Answer =
+    said 4 ((editOf Insert 0 1 5 ∷ editOf Insert 0 2 5 ∷ editOf Insert 1 3 5 ∷ editOf Insert 2 3 5 ∷ []) ∷ (editOf Cheapen 2 3 4 ∷ editOf Insert 0 1 4 ∷ []) ∷ (editOf Delete 3 2 0 ∷ editOf Insert 3 2 1 ∷ []) ∷ []) in
+    let to-and-fro : List Edit = joinTo 16 (λ i. editOf Insert 1 0 1 ∷ editOf Delete 1 0 9 ∷ []) in
+    let long : List Answer = said 2 (to-and-fro ∷ (editOf Insert 0 1 3 ∷ to-and-fro) ∷ [] ∷ []) in
+    (map told small ≡ (0 ∷ 0 ∷ 7 ∷ 3 ∷ []) ∷ (6 ∷ 2 ∷ 0 ∷ 0 ∷ []) ∷ (7 ∷ 1 ∷ 0 ∷ 0 ∷ []) ∷ []) ×
+    (map told long ≡ (0 ∷ 0 ∷ 2 ∷ 1 ∷ []) ∷ (12 ∷ 0 ∷ 0 ∷ 0 ∷ []) ∷ (0 ∷ 0 ∷ 0 ∷ 0 ∷ []) ∷ [])
 unfolding sumTo joinTo listTo allTo same setOf count visits uses time least extend hops routes leastTime quickest ways through portion share used score filled sized validCosts uncrowded right touched touchedBy judged rule bookRefusal bookAfter bookAnswer bookAnswers run
-lists-run = (refl, refl, refl, refl, refl)
+lists-run = (refl, refl)
 
 -- the sets of touched sources of raises in the book, a refused one among them and one of a link that no quickest route uses, and the
 -- links that they leave
@@ -182,11 +182,11 @@ pub book-runs :
     let calls : List Call = map (λ a. record { n = 4; ask = a }) (diamond ++ change Cheapen 2 3 4 ∷ change Delete 2 3 0 ∷ []) in
     let more : List Call = record { n = 3; ask = audit } ∷ record { n = 4; ask = change Insert 0 1 4 } ∷ record { n = 4; ask = workOut (replicate 15 0) } ∷ [] in
     let none : List ℕ = replicate 16 0 in
-    (map (λ a. number (a .refusal)) (bookAnswers (calls ++ more) (noLinks 4)) ≡ 0 ∷ 0 ∷ 0 ∷ 0 ∷ 8 ∷ 0 ∷ 0 ∷ 2 ∷ 6 ∷ 2 ∷ []) ×
-    (map (λ a. a .touched) (bookAnswers (calls ++ more) (noLinks 4)) ≡ 1 ∷ 1 ∷ 3 ∷ 5 ∷ 0 ∷ 5 ∷ 5 ∷ 0 ∷ 0 ∷ 0 ∷ []) ×
-    (map (λ a. a .before) (bookAnswers (calls ++ more) (noLinks 4)) ≡ 0 ∷ 0 ∷ 0 ∷ 0 ∷ 0 ∷ 5 ∷ 4 ∷ 0 ∷ 0 ∷ 0 ∷ []) ×
+    (map (λ a. number (a .refusal) ∷ a .touched ∷ a .before ∷ []) (bookAnswers (calls ++ more) (noLinks 4)) ≡
+    (0 ∷ 1 ∷ 0 ∷ []) ∷ (0 ∷ 1 ∷ 0 ∷ []) ∷ (0 ∷ 3 ∷ 0 ∷ []) ∷ (0 ∷ 5 ∷ 0 ∷ []) ∷ (8 ∷ 0 ∷ 0 ∷ []) ∷ (0 ∷ 5 ∷ 5 ∷ []) ∷ (0 ∷ 5 ∷ 4 ∷ []) ∷
+    (2 ∷ 0 ∷ 0 ∷ []) ∷ (6 ∷ 0 ∷ 0 ∷ []) ∷ (2 ∷ 0 ∷ 0 ∷ []) ∷ []) ×
     (run bookAfter (calls ++ more) (noLinks 4) .links ≡ 0 ∷ 5 ∷ 5 ∷ 0 ∷ 0 ∷ 0 ∷ 0 ∷ 5 ∷ 0 ∷ 0 ∷ 0 ∷ 0 ∷ 0 ∷ 0 ∷ 0 ∷ 0 ∷ []) ×
     (run bookAfter (calls ++ (record { n = 4; ask = emptyHall } ∷ [])) (noLinks 4) .links ≡ none) ×
     (run bookAfter (calls ++ (record { n = 4; ask = workOut (0 ∷ 7 ∷ drop 2 none) } ∷ [])) (noLinks 4) .links ≡ 0 ∷ 7 ∷ drop 2 none)
 unfolding sumTo joinTo listTo allTo same setOf count visits uses time least extend hops routes leastTime quickest ways through portion share used score filled sized validCosts uncrowded right touched rule bookRefusal bookAfter bookAnswer bookAnswers run
-book-runs = (refl, refl, refl, refl, refl, refl)
+book-runs = (refl, refl, refl, refl)
