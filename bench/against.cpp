@@ -1,16 +1,19 @@
 // Work out, audit and edit of an older library beside those of this one, in one process and on the same halls, by the functions of
 // calls.c with `old_` and `new_` before their names. Times are the least of many runs, taken in turn; for each hall a line with the
-// times of both, and whether the tables agree.
+// times of both, and whether the tables agree. An older library with another scale has its tables moved over before they are compared.
 #include "halls.h"
 
+using Scale = uint64_t();
 using Whole = uint32_t(hall_tables);
 using Insert = uint32_t(hall_tables, uint64_t from, uint64_t to, uint64_t c);
 using Delete = uint32_t(hall_tables, uint64_t from, uint64_t to);
 
 extern "C" {
+Scale old_call_scale, new_call_scale;
 Whole old_call_work_out, old_call_audit, new_call_work_out, new_call_audit;
 Insert old_call_insert, new_call_insert;
 Delete old_call_delete, new_call_delete;
+decltype(hall_move_over) new_hall_move_over;
 }
 
 // One library's calls.
@@ -33,27 +36,43 @@ static void whole(const Calls &calls, Hall &h, Times &best) {
     best.audit = std::min(best.audit, least_time(20, [&] { calls.audit(t); }));
 }
 
-// The delete of a link and its insert again: keeps their least time so far, and says whether both were accepted.
-static bool edit(const Calls &calls, Hall &h, const Link &l, double &least) {
+static bool same_tables(const Hall &a, const Hall &b) {
+    return a.cost == b.cost && a.time == b.time && a.ways == b.ways && a.share == b.share && a.score == b.score;
+}
+
+// The delete of a link and its insert again, with the shares and scores of the library's own scale put in place before: keeps their
+// least time so far, and says whether both were accepted and left the tables as worked out.
+static bool edit(const Calls &calls, Hall &h, const Hall &worked, const Link &l, double &least) {
     hall_tables t = h.tables();
     uint32_t out = 0, in = 0;
+    h.share = worked.share;
+    h.score = worked.score;
     least = std::min(least, time_of([&] {
                          out = calls.remove(t, l.from, l.to);
                          in = calls.insert(t, l.from, l.to, l.cost);
                      }));
-    return out == HALL_ACCEPTED && in == HALL_ACCEPTED;
+    return out == HALL_ACCEPTED && in == HALL_ACCEPTED && same_tables(h, worked);
 }
 
-// The mean time of an edit of these links, each with its least time of twenty; says whether all were accepted.
-static bool edits(Hall &h, const std::vector<Link> &links, Times &old, Times &now) {
+// The mean time of an edit of these links, each with its least time of twenty, on tables as each library worked them out; says
+// whether all were accepted.
+static bool edits(const Hall &by_old, const Hall &by_new, const std::vector<Link> &links, Times &old, Times &now) {
+    Hall h = by_new;
     bool taken = true;
     for (const Link &l : links) {
         double before = 1e300, after = 1e300;
-        for (int round = 0; round < 20; round++) taken = edit(OLD, h, l, before) && edit(NEW, h, l, after) && taken;
+        for (int round = 0; round < 20; round++)
+            taken = edit(OLD, h, by_old, l, before) && edit(NEW, h, by_new, l, after) && taken;
         old.edits += before / (2 * links.size());
         now.edits += after / (2 * links.size());
     }
     return taken;
+}
+
+// Moves tables over where the older library has another scale.
+static bool moved(Hall &h) {
+    hall_tables t = h.tables();
+    return old_call_scale() == new_call_scale() || new_hall_move_over(t.n, HALL_TABLES(t)) == HALL_ACCEPTED;
 }
 
 static int measure(const std::string &name, Hall h, std::mt19937 &random) {
@@ -67,8 +86,7 @@ static int measure(const std::string &name, Hall h, std::mt19937 &random) {
     std::vector<Link> links = links_of(h);
     std::shuffle(links.begin(), links.end(), random);
     if (links.size() > 32) links.resize(32);
-    bool same = edits(h, links, old, now) && h.cost == other.cost && h.time == other.time && h.ways == other.ways &&
-                h.share == other.share && h.score == other.score;
+    bool same = edits(other, h, links, old, now) && moved(other) && same_tables(h, other);
     std::printf("%s, %zu links;%.2f;%.2f;%.2f;%.2f;%.2f;%.2f;%s\n", name.c_str(), links_of(h).size(), old.work_out, now.work_out,
                 old.audit, now.audit, old.edits, now.edits, same ? "agree" : "DIFFER");
     return same ? 0 : 1;

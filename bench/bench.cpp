@@ -1,7 +1,8 @@
 // Work out, audit and edit of the proved library beside Boost's and igraph's betweenness, in one process and on the same
-// graphs; a raise beside the delete and the insert that said the same before there was one; and a list of eight edits beside the
-// same eight one by one. Times are the least of many runs, taken in turn; ratios are theirs, or those of the two edits, divided by
-// ours, and for lists the list divided by the single edits.
+// graphs; a raise beside the delete and the insert that said the same before there was one; a list of eight edits beside the same
+// eight one by one; and the moving call on the same hall by the old numbers. Times are the least of many runs, taken in turn; ratios
+// are theirs, or those of the two edits, divided by ours, for lists the list divided by the single edits, and for the moving call its
+// time divided by that of an audit and of a work out.
 #include "halls.h"
 
 #include <boost/graph/adjacency_list.hpp>
@@ -165,6 +166,27 @@ static Lists lists(Hall &h, const std::vector<Link> &links) {
     return count ? Lists{sum.list / count, sum.single / count} : Lists{};
 }
 
+// The tables that the old numbers gave for the same links.
+static Hall old_tables(Hall h) {
+    for (uint64_t &share : h.share) share *= HALL_OLD_SCALE / HALL_SCALE;
+    for (uint64_t &score : h.score) score *= HALL_OLD_SCALE / HALL_SCALE;
+    return h;
+}
+
+// Puts such tables into h and moves them over, fifty times: keeps the least time so far, and says whether all left what a work out
+// does.
+static bool moved(Hall &h, const Hall &old, const Hall &anew, double &least) {
+    bool same = true;
+    for (int round = 0; round < 50; round++) {
+        uint32_t refusal = HALL_NO_KIND;
+        h.share = old.share;
+        h.score = old.score;
+        least = std::min(least, time_of([&] { refusal = h.move_over(); }));
+        same = same && refusal == HALL_ACCEPTED && h.share == anew.share && h.score == anew.score;
+    }
+    return same;
+}
+
 static int measure(const std::string &name, Hall h, std::mt19937 &random) {
     if (h.work_out() != HALL_ACCEPTED) {
         std::printf("%-28s refused\n", name.c_str());
@@ -177,10 +199,12 @@ static int measure(const std::string &name, Hall h, std::mt19937 &random) {
     bool same = agrees(h, [&](size_t v) { return boost.scores[v]; }) &&
                 agrees(h, [&](size_t v) { return VECTOR(igraph.scores)[v]; });
 
-    double ours = 1e300, audit = 1e300, theirs = 1e300, others = 1e300;
+    const Hall anew = h, old = old_tables(h);
+    double ours = 1e300, audit = 1e300, move = 1e300, theirs = 1e300, others = 1e300;
     for (int round = 0; round < 20; round++) {
         ours = std::min(ours, least_time(50, [&] { h.work_out(); }));
         audit = std::min(audit, least_time(50, [&] { h.audit(); }));
+        same = moved(h, old, anew, move) && same;
         theirs = std::min(theirs, least_time(10, [&] { boost.run(); }));
         others = std::min(others, least_time(10, [&] { igraph.run(); }));
     }
@@ -194,9 +218,11 @@ static int measure(const std::string &name, Hall h, std::mt19937 &random) {
     Lists l = lists(h, links);
     same = same && h.cost == costs && h.audit() == HALL_ACCEPTED;
 
-    std::printf("%-28s %5zu %6zu | %8.1f %8.1f %8.1f %5.1f %8.1f | %6.2f %6.2f | %6.2f | %6.2f %6.2f | %8.2f | %8.1f %6.3f | %s\n", name.c_str(),
-                links_of(h).size(), useful_links(h), ours, audit, e.edit, e.rows, s.raise, theirs / ours, others / ours, theirs / audit,
-                theirs / e.edit, others / e.edit, s.two / s.raise, l.list, l.list / l.single, same ? "agree" : "DIFFER");
+    std::printf("%-28s %5zu %6zu | %8.1f %8.1f %8.1f %5.1f %8.1f | %6.2f %6.2f | %6.2f | %6.2f %6.2f | %8.2f | %8.1f %6.3f | "
+                "%8.1f %6.2f %6.2f | %s\n",
+                name.c_str(), links_of(h).size(), useful_links(h), ours, audit, e.edit, e.rows, s.raise, theirs / ours, others / ours,
+                theirs / audit, theirs / e.edit, others / e.edit, s.two / s.raise, l.list, l.list / l.single, move, move / audit, move / ours,
+                same ? "agree" : "DIFFER");
     return same ? 0 : 1;
 }
 
@@ -212,10 +238,11 @@ static void write_links(const char *path, const Hall &h) {
 
 int main(int argc, char **argv) {
     std::mt19937 random(7);
-    std::printf("%-28s %5s %6s | %8s %8s %8s %5s %8s | %6s %6s | %6s | %6s %6s | %8s | %8s %6s |\n", "hall", "links", "useful",
-                "work out", "audit", "edit", "rows", "raise", "Boost", "igraph", "Boost", "Boost", "igraph", "2 edits", "list", "list");
-    std::printf("%-28s %5s %6s | %8s %8s %8s %5s %8s | %13s | %6s | %13s | %8s | %8s %6s |\n", "", "", "", "us", "us", "us", "", "us",
-                "/ work out", "/audit", "/ edit", "/ raise", "of 8, us", "/ 8");
+    std::printf("%-28s %5s %6s | %8s %8s %8s %5s %8s | %6s %6s | %6s | %6s %6s | %8s | %8s %6s | %8s %6s %6s |\n", "hall", "links",
+                "useful", "work out", "audit", "edit", "rows", "raise", "Boost", "igraph", "Boost", "Boost", "igraph", "2 edits", "list",
+                "list", "move", "move", "move");
+    std::printf("%-28s %5s %6s | %8s %8s %8s %5s %8s | %13s | %6s | %13s | %8s | %8s %6s | %8s %6s %6s |\n", "", "", "", "us", "us",
+                "us", "", "us", "/ work out", "/audit", "/ edit", "/ raise", "of 8, us", "/ 8", "over, us", "/audit", "/ w.o.");
     int bad = 0;
     for (size_t links : {128, 256, 1024, 4032}) {
         Hall h = random_hall(64, links, random);

@@ -1,6 +1,8 @@
 /* Four calls of the library whose hall.h stands beside it, over its tables and answered with the refusal alone, so that libraries
- * with other answers can be timed in one process. */
+ * with other answers can be timed in one process; and its scale. */
 #include "hall.h"
+
+uint64_t call_scale(void) { return HALL_SCALE; }
 
 uint32_t call_work_out(hall_tables t) { return hall_work_out(t.n, HALL_TABLES(t)); }
 

@@ -30,6 +30,10 @@ struct Hall {
         hall_tables t = tables();
         return hall_audit(n, HALL_TABLES(t));
     }
+    uint32_t move_over() {
+        hall_tables t = tables();
+        return hall_move_over(n, HALL_TABLES(t));
+    }
     hall_edited insert(uint64_t u, uint64_t v, uint64_t c) {
         hall_tables t = tables();
         return hall_insert(n, u, v, c, HALL_TABLES(t));

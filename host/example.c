@@ -1,5 +1,6 @@
 /* A small hall from a C host: built, edited, scored, written as an image and read back, with refusals shown, edits reversed and a
- * shift changed in one go; then a line of 64 stops. What it prints stands in example.out. */
+ * shift changed in one go; then one that an older release left, moved over, and a line of 64 stops. What it prints stands in
+ * example.out. */
 #include "hall.h"
 
 #include <inttypes.h>
@@ -78,7 +79,11 @@ static int same_tables(hall_tables a, hall_tables b)
 /* Each call, over the host's own type. */
 static inline uint32_t empty(const hall_tables *t) { return hall_empty(t->n, HALL_TABLES(*t)); }
 
+static inline uint32_t work_out(const hall_tables *t) { return hall_work_out(t->n, HALL_TABLES(*t)); }
+
 static inline uint32_t audit(const hall_tables *t) { return hall_audit(t->n, HALL_TABLES(*t)); }
+
+static inline uint32_t move_over(const hall_tables *t) { return hall_move_over(t->n, HALL_TABLES(*t)); }
 
 static inline hall_edited insert(const hall_tables *t, uint64_t from, uint64_t to, uint64_t c)
 {
@@ -256,6 +261,44 @@ static int small_hall(void)
     return same && back && shifts && refusal == HALL_ACCEPTED;
 }
 
+/* The tables that an older release left of the hall above before its first cheapen: two ways from 0 to 3. Shares and scores are by
+ * the old scale, half of 232,792,560 for the stop between. */
+static hall_tables old_tables(void)
+{
+    static const uint32_t cost[] = {0, 5, 5, 0, 0, 0, 0, 5, 0, 0, 0, 5, 0, 0, 0, 0};
+    static const uint32_t time[] = {0,         5,         5, 10, HALL_MARK, 0,         HALL_MARK, 5,
+                                    HALL_MARK, HALL_MARK, 0, 5,  HALL_MARK, HALL_MARK, HALL_MARK, 0};
+    static const uint32_t ways[] = {1, 1, 1, 2, 0, 1, 0, 1, 0, 0, 1, 1, 0, 0, 0, 1};
+    static const uint64_t share[] = {0, 116396280, 116396280, 0, 0, 0, 0, 0, 0, 0, 0, 0, 0, 0, 0, 0};
+    static const uint64_t score[] = {0, 116396280, 116396280, 0};
+    hall_tables t = make_tables(4);
+
+    memcpy(t.cost, cost, sizeof cost);
+    memcpy(t.time, time, sizeof time);
+    memcpy(t.ways, ways, sizeof ways);
+    memcpy(t.share, share, sizeof share);
+    memcpy(t.score, score, sizeof score);
+    return t;
+}
+
+/* Moves such tables over, and tries to move them again. Says whether they are then those of a work out from the same costs. */
+static int moved_hall(void)
+{
+    hall_tables hall = old_tables(), anew = copy_of(hall);
+    int same;
+
+    print_call("audit of old tables", audit(&hall));
+    print_call("move over", move_over(&hall));
+    print_scores(&hall);
+    print_call("move over again", move_over(&hall));
+    print_call("work out", work_out(&anew));
+    same = same_tables(hall, anew);
+    printf("moved: %s\n", same ? "same tables" : "OTHER TABLES");
+    free_tables(hall);
+    free_tables(anew);
+    return same;
+}
+
 /* A one-way line of 64 stops: 31 stops lie before stop 31 and 32 behind it, so that 992 routes pass it. Says whether they do. */
 static int long_line(void)
 {
@@ -274,7 +317,7 @@ static int long_line(void)
 
 int main(void)
 {
-    int small = small_hall(), line = long_line();
+    int small = small_hall(), moved = moved_hall(), line = long_line();
 
-    return small && line ? 0 : 1;
+    return small && moved && line ? 0 : 1;
 }

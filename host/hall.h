@@ -7,9 +7,10 @@
  * A hall has n stops, 0 to n - 1, with n from 1 to 64, and one-way links
  * between them, each with a cost (its travel time) from 1 to 65,535. A stop's
  * score is its share of the quickest routes between all other stops, times
- * HALL_SCALE, which makes it a whole number. The calls below fill five tables
- * of a hall, keep them right through edits of its links, and turn its links
- * into bytes, an image, and back.
+ * HALL_SCALE, which makes it a whole number. No score passes 108,274,320, so
+ * that it fits 32 bits. The calls below fill five tables of a hall, keep them
+ * right through edits of its links, and turn its links into bytes, an image,
+ * and back. One call moves tables of an older scale over to this one.
  *
  *
  * LINKING
@@ -29,7 +30,7 @@
  *
  * The library is proved; that this header fits it is not. `make -C host check`
  * tries it. The two go together: compile a host anew for another release of
- * the library, whose answers may have grown.
+ * the library, whose answers may have grown, or whose scale is another.
  *
  *
  * MEMORY
@@ -95,7 +96,8 @@
  *                             score
  *    3  HALL_BAD_TABLES       the tables are not those of a hall: the cost
  *                             table is not one that work out accepts, or the
- *                             other four are not what it would fill
+ *                             other four are not what it would fill; in
+ *                             hall_move_over, by the old numbers
  *    4  HALL_BAD_STOP         a stop is n or more, or both are the same
  *    5  HALL_BAD_COST         a cost is 0 or above 65,535; in work out, an
  *                             entry above 65,535 or a diagonal entry other
@@ -106,7 +108,8 @@
  *                             raise to one not above it
  *    9  HALL_BAD_IMAGE        the bytes are no image of a hall of n stops
  *   10  HALL_SHORT_BUFFER     the image buffer is too short
- *   11  HALL_TOO_MANY_WAYS    the hall would have a pair with more than 22 ways
+ *   11  HALL_TOO_MANY_WAYS    the hall would have a pair with more than 12
+ *                             ways; in hall_move_over, it has one
  *   12  HALL_LIST_TOO_LONG    a list has more than 32 edits
  *
  * One answer stands for a call that is not made, since it was given no list of
@@ -114,6 +117,38 @@
  *
  *  255  HALL_NO_KIND          one of the first 32 edits of a list has a kind
  *                             that is none
+ *
+ *
+ * MOVING A HALL OVER FROM THE OLD NUMBERS
+ *
+ * Older releases allowed 22 ways and had the scale 232,792,560: HALL_OLD_WAYS
+ * and HALL_OLD_SCALE, which is 8,398 times HALL_SCALE. The tables have the same
+ * widths, costs, times and ways as now; each share and score is 8,398 times as
+ * large. hall_move_over divides them in place, so a hall need not stop:
+ *
+ * 1. The tables lie in the host's memory. Let them lie there, as the last call
+ *    of the old library left them.
+ * 2. Link this library in place of the old one. Both have the same names; a
+ *    host that wants both at once puts each into a shared object of its own.
+ * 3. Call hall_move_over once. From there on use this library alone, and read
+ *    shares and scores by HALL_SCALE.
+ *
+ * Until step 3 each call of this library that looks at the tables (audit, the
+ * edits, a list of edits, image write) answers 3. If every share is 0, old and
+ * new tables are the same: all calls take them, and moving changes nothing.
+ *
+ * Refused with 11: go on with the old library, which can still edit the hall.
+ * Once no entry of the ways table is above 12, move again.
+ *
+ * Refused with 3: the tables are not those of the old numbers. If hall_audit
+ * answers 0, they have been moved already. Else they are damaged: work them out
+ * anew from the cost table by hall_work_out, which needs no old tables, or read
+ * the last good image. A host that was killed inside hall_move_over finds its
+ * costs as they were.
+ *
+ * Once moved, every share and score fits 32 bits, though the tables keep their
+ * widths. An image has links only, so old images are read as before; one of a
+ * hall with more than 12 ways is refused with 11.
  */
 
 #if !defined(__x86_64__) || defined(__ILP32__) || !defined(__linux__)
@@ -130,12 +165,16 @@ extern "C" {
 /* The limits, each as wide as what it is compared with or multiplied into. */
 #define HALL_STOPS UINT64_C(64)             /* most stops */
 #define HALL_LARGEST_COST UINT32_C(65535)   /* of a link */
-#define HALL_WAYS UINT32_C(22)              /* most quickest routes of a pair */
+#define HALL_WAYS UINT32_C(12)              /* most quickest routes of a pair */
 #define HALL_EDITS UINT64_C(32)             /* most edits of a list */
 #define HALL_MARK UINT32_C(4294967295)      /* the time where there is no route */
-#define HALL_SCALE UINT64_C(232792560)      /* one route, in a share or a score */
+#define HALL_SCALE UINT64_C(27720)          /* one route, in a share or a score */
 #define HALL_LONGEST_IMAGE UINT64_C(16136)  /* bytes: 8, and 4 for each link */
 #define HALL_STACK UINT64_C(98304)          /* bytes of stack for any call */
+
+/* The old numbers, for hall_move_over alone. */
+#define HALL_OLD_WAYS UINT32_C(22)
+#define HALL_OLD_SCALE UINT64_C(232792560)
 
 /* The numbers that calls answer, by name. */
 typedef enum {
@@ -265,6 +304,19 @@ uint32_t hall_audit(uint64_t n,
                     const uint32_t *ways, size_t ways_length,
                     const uint64_t *share, size_t share_length,
                     const uint64_t *score, size_t score_length);
+
+/* Moves tables of the old numbers over: divides each share and score by 8,398,
+ * HALL_OLD_SCALE / HALL_SCALE, so that the five are those of a work out from
+ * the same costs. Costs, times and ways are only read. It first audits the
+ * tables by the old scale and the old limit of 22 ways, so that it answers 3
+ * for tables that have been moved, unless every share is 0. Refused, it has
+ * changed nothing. Refusals 1, 2, 3, 11. */
+uint32_t hall_move_over(uint64_t n,
+                        const uint32_t *cost, size_t cost_length,
+                        const uint32_t *time, size_t time_length,
+                        const uint32_t *ways, size_t ways_length,
+                        uint64_t *share, size_t share_length,
+                        uint64_t *score, size_t score_length);
 
 /* The edits audit the tables, change the cost of one link, and bring the other
  * four tables up to it. */

@@ -21,6 +21,7 @@ static uint32_t answer;
 static void empty(void) { answer = hall_empty(N, HALL_TABLES(t)); }
 static void work_out(void) { answer = hall_work_out(N, HALL_TABLES(t)); }
 static void audit(void) { answer = hall_audit(N, HALL_TABLES(t)); }
+static void move_over(void) { answer = hall_move_over(N, HALL_TABLES(t)); }
 static void insert(void) { answer = hall_insert(N, 0, 1, 10, HALL_TABLES(t)).refusal; }
 static void cheapen(void) { answer = hall_cheapen(N, 0, 1, 10, HALL_TABLES(t)).refusal; }
 static void raise_cost(void) { answer = hall_raise(N, 0, 1, 10, HALL_TABLES(t)).refusal; }
@@ -73,19 +74,28 @@ static void lay(uint64_t between, uint32_t direct)
     cost[1] = direct;
 }
 
+/* The tables as the old numbers would have them. */
+static void make_old(void)
+{
+    for (size_t i = 0; i < CELLS; i++)
+        share[i] *= HALL_OLD_SCALE / HALL_SCALE;
+    for (size_t v = 0; v < N; v++)
+        score[v] *= HALL_OLD_SCALE / HALL_SCALE;
+}
+
 int main(void)
 {
     int good = fits("empty hall", empty, HALL_ACCEPTED);
 
-    lay(22, 0);
+    lay(HALL_WAYS, 0);
     good &= fits("work out", work_out, HALL_ACCEPTED);
     good &= fits("insert", insert, HALL_TOO_MANY_WAYS);
-    lay(22, 11);
+    lay(HALL_WAYS, 11);
     good &= fits("work out", work_out, HALL_ACCEPTED);
     good &= fits("cheapen", cheapen, HALL_TOO_MANY_WAYS);
-    lay(23, 0);
+    lay(HALL_WAYS + 1, 0);
     good &= fits("work out", work_out, HALL_TOO_MANY_WAYS);
-    lay(23, 9);
+    lay(HALL_WAYS + 1, 9);
     good &= fits("work out", work_out, HALL_ACCEPTED);
     good &= fits("raise", raise_cost, HALL_TOO_MANY_WAYS);
     good &= fits("delete", delete_link, HALL_TOO_MANY_WAYS);
@@ -94,5 +104,10 @@ int main(void)
     good &= fits("image write", image_write, HALL_ACCEPTED);
     good &= fits("image check", image_check, HALL_ACCEPTED);
     good &= fits("image read", image_read, HALL_ACCEPTED);
+    lay(HALL_WAYS, 0);
+    good &= fits("work out", work_out, HALL_ACCEPTED);
+    make_old();
+    good &= fits("move over", move_over, HALL_ACCEPTED);
+    good &= fits("move over", move_over, HALL_BAD_TABLES);
     return !good;
 }

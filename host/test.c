@@ -1,13 +1,16 @@
 /* What hall.h says of the archive, and no proof covers, tried: widths and layout, the name of each refusal, the order of the
- * arguments, NULL with length 0, the longest image. Prints what does not hold. */
+ * arguments, NULL with length 0, old tables moved over, the longest image. Prints what does not hold. */
 #include "hall.h"
 
 #include <stdio.h>
 #include <string.h>
 
-/* A score is a product in 64 bits; entries of 32 bits are compared in 32. */
-_Static_assert(992 * HALL_SCALE == 230930219520, "a product with the scale must not wrap");
+/* A score is a product in 64 bits, also by the old scale, and by this one fits 32; entries of 32 bits are compared in 32. */
+_Static_assert(992 * HALL_OLD_SCALE == 230930219520, "a product with the scale must not wrap");
+_Static_assert(63 * 62 * HALL_SCALE == 108274320 && 108274320 <= UINT32_MAX, "the largest score fits 32 bits");
+_Static_assert(HALL_OLD_SCALE == 8398 * HALL_SCALE, "what a share is divided by");
 _Static_assert(sizeof HALL_SCALE == sizeof(uint64_t) && sizeof HALL_STOPS == sizeof(uint64_t), "as wide as a score, as n");
+_Static_assert(sizeof HALL_OLD_SCALE == sizeof(uint64_t) && sizeof HALL_OLD_WAYS == sizeof(uint32_t), "as wide as a score, as ways");
 _Static_assert(sizeof HALL_MARK == sizeof(uint32_t) && sizeof HALL_WAYS == sizeof(uint32_t), "as wide as an entry");
 _Static_assert(sizeof HALL_LARGEST_COST == sizeof(uint32_t), "as wide as an entry");
 
@@ -54,6 +57,7 @@ static void null_is_empty(void)
         HOLDS(hall_empty(n, NONE) == expected);
         HOLDS(hall_work_out(n, NONE) == expected);
         HOLDS(hall_audit(n, NONE) == expected);
+        HOLDS(hall_move_over(n, NONE) == expected);
         HOLDS(hall_insert(n, 0, 1, 1, NONE).refusal == expected);
         HOLDS(hall_cheapen(n, 0, 1, 1, NONE).refusal == expected);
         HOLDS(hall_raise(n, 0, 1, 1, NONE).refusal == expected);
@@ -105,11 +109,11 @@ static void names_fit(void)
     HOLDS(hall_audit(3, HALL_TABLES(t)) == HALL_ACCEPTED);
 }
 
-/* 22 stops between 0 and 1 make as many ways; one more is refused, and leaves what was there. Beside a quicker link there may be 23,
+/* 12 stops between 0 and 1 make as many ways; one more is refused, and leaves what was there. Beside a quicker link there may be 13,
  * but that link cannot close, and the refused delete does not tell what it costs. */
 static void most_ways(void)
 {
-    hall_tables t = tables_of(25);
+    hall_tables t = tables_of(15);
     uint64_t middle = 2 + HALL_WAYS;
     hall_edited e;
 
@@ -117,7 +121,7 @@ static void most_ways(void)
     for (uint64_t v = 2; v < middle; v++)
         cost[v] = cost[v * t.n + 1] = 5;
     HOLDS(hall_work_out(t.n, HALL_TABLES(t)) == HALL_ACCEPTED);
-    HOLDS(ways[1] == HALL_WAYS && score[2] == HALL_SCALE / HALL_WAYS);
+    HOLDS(ways[1] == 12 && score[2] == 2310);
     HOLDS(hall_insert(t.n, 0, middle, 5, HALL_TABLES(t)).refusal == HALL_ACCEPTED);
     HOLDS(hall_insert(t.n, middle, 1, 5, HALL_TABLES(t)).refusal == HALL_TOO_MANY_WAYS);
     cost[middle * t.n + 1] = 5;
@@ -147,37 +151,39 @@ static void ways_in_16_bits(void)
 
     HOLDS(hall_work_out(t.n, HALL_TABLES(t)) == HALL_TOO_MANY_WAYS);
     t = forward(6);
+    HOLDS(hall_work_out(t.n, HALL_TABLES(t)) == HALL_TOO_MANY_WAYS);
+    t = forward(5);
     HOLDS(hall_work_out(t.n, HALL_TABLES(t)) == HALL_ACCEPTED);
-    HOLDS(ways[5] == 16 && hall_audit(t.n, HALL_TABLES(t)) == HALL_ACCEPTED);
-    ways[5] += 65536;
+    HOLDS(ways[4] == 8 && hall_audit(t.n, HALL_TABLES(t)) == HALL_ACCEPTED);
+    ways[4] += 65536;
     HOLDS(hall_audit(t.n, HALL_TABLES(t)) == HALL_BAD_TABLES);
 }
 
-static uint32_t old_cost[MOST], old_time[MOST], old_ways[MOST];
-static uint64_t old_share[MOST], old_score[64];
+static uint32_t kept_cost[MOST], kept_time[MOST], kept_ways[MOST];
+static uint64_t kept_share[MOST], kept_score[64];
 
 static void keep(void)
 {
-    memcpy(old_cost, cost, sizeof cost);
-    memcpy(old_time, time, sizeof time);
-    memcpy(old_ways, ways, sizeof ways);
-    memcpy(old_share, share, sizeof share);
-    memcpy(old_score, score, sizeof score);
+    memcpy(kept_cost, cost, sizeof cost);
+    memcpy(kept_time, time, sizeof time);
+    memcpy(kept_ways, ways, sizeof ways);
+    memcpy(kept_share, share, sizeof share);
+    memcpy(kept_score, score, sizeof score);
 }
 
 static int as_kept(void)
 {
-    return !memcmp(old_cost, cost, sizeof cost) && !memcmp(old_time, time, sizeof time) && !memcmp(old_ways, ways, sizeof ways) &&
-           !memcmp(old_share, share, sizeof share) && !memcmp(old_score, score, sizeof score);
+    return !memcmp(kept_cost, cost, sizeof cost) && !memcmp(kept_time, time, sizeof time) && !memcmp(kept_ways, ways, sizeof ways) &&
+           !memcmp(kept_share, share, sizeof share) && !memcmp(kept_score, score, sizeof score);
 }
 
 static int same_sources(hall_edited a, hall_edited b) { return a.touched == b.touched && a.rows == b.rows; }
 
-/* 21 ways from 0 to 1 over a stop each, of which the one over 3 is quickest: an edit of each kind changes the tables, and is
+/* 11 ways from 0 to 1 over a stop each, of which the one over 3 is quickest: an edit of each kind changes the tables, and is
  * reversed from its answer. */
 static void reversed(void)
 {
-    hall_tables t = tables_of(25);
+    hall_tables t = tables_of(15);
     hall_edited e, back;
 
     memset(cost, 0, sizeof cost);
@@ -253,6 +259,114 @@ static void listed(void)
     HOLDS(answers(hall_edit_list(4, list, 33, HALL_TABLES(t)), HALL_BAD_TABLES, 0, 0, 0));
 }
 
+/* Five tables by the old numbers, put down entry by entry: `between` ways of time 10 from 0 to 1, each over one stop. */
+static hall_tables old_hall(uint64_t between)
+{
+    hall_tables t = tables_of(2 + between);
+
+    memset(cost, 0, sizeof cost);
+    memset(time, 0xff, sizeof time);
+    memset(ways, 0, sizeof ways);
+    memset(share, 0, sizeof share);
+    memset(score, 0, sizeof score);
+    for (uint64_t v = 0; v < t.n; v++) {
+        time[v * t.n + v] = 0;
+        ways[v * t.n + v] = 1;
+    }
+    for (uint64_t v = 2; v < t.n; v++) {
+        cost[v] = cost[v * t.n + 1] = time[v] = time[v * t.n + 1] = 5;
+        ways[v] = ways[v * t.n + 1] = 1;
+        share[v] = score[v] = HALL_OLD_SCALE / between;
+    }
+    time[1] = 10;
+    ways[1] = between;
+    return t;
+}
+
+/* What the moving call answers, or HALL_NO_KIND if it refuses and some byte has changed. */
+static uint32_t move(uint64_t n, hall_tables t)
+{
+    uint32_t refusal;
+
+    keep();
+    refusal = hall_move_over(n, HALL_TABLES(t));
+    return refusal == HALL_ACCEPTED || as_kept() ? refusal : (uint32_t)HALL_NO_KIND;
+}
+
+/* 12 ways by the old numbers move over once, and are then those of a work out; until then an edit refuses them. */
+static void moved(void)
+{
+    hall_tables t = old_hall(12);
+
+    HOLDS(share[2] == 19399380 && hall_audit(t.n, HALL_TABLES(t)) == HALL_BAD_TABLES);
+    HOLDS(hall_delete(t.n, 0, 2, HALL_TABLES(t)).refusal == HALL_BAD_TABLES);
+    HOLDS(move(t.n, t) == HALL_ACCEPTED && share[2] == 2310 && score[2] == 2310 && score[13] == 2310);
+    HOLDS(hall_audit(t.n, HALL_TABLES(t)) == HALL_ACCEPTED);
+    HOLDS(move(t.n, t) == HALL_BAD_TABLES);
+    keep();
+    HOLDS(hall_work_out(t.n, HALL_TABLES(t)) == HALL_ACCEPTED && as_kept());
+    /* where every share is 0, old tables and new ones are the same */
+    t = tables_of(3);
+    HOLDS(hall_empty(3, HALL_TABLES(t)) == HALL_ACCEPTED && move(3, t) == HALL_ACCEPTED && as_kept());
+    HOLDS(hall_insert(3, 2, 1, 7, HALL_TABLES(t)).refusal == HALL_ACCEPTED && move(3, t) == HALL_ACCEPTED && as_kept());
+}
+
+/* The moving call's refusals in their order; move() sees that nothing has changed. */
+static void not_moved(void)
+{
+    hall_tables t = old_hall(13);
+
+    HOLDS(share[2] == 17907120 && move(t.n, t) == HALL_TOO_MANY_WAYS);
+    HOLDS(move(0, t) == HALL_BAD_SIZE && move(HALL_STOPS + 1, t) == HALL_BAD_SIZE);
+    HOLDS(move(t.n + (UINT64_C(1) << 32), t) == HALL_BAD_SIZE);
+    HOLDS(move(t.n - 1, t) == HALL_BAD_LENGTH && move(t.n + 1, t) == HALL_BAD_LENGTH);
+    HOLDS(hall_move_over(t.n, cost, t.n * t.n, time, t.n * t.n, ways, t.n * t.n, share, t.n * t.n, score, t.n - 1) == HALL_BAD_LENGTH);
+    share[2]++;
+    HOLDS(move(t.n, t) == HALL_BAD_TABLES);
+    t = old_hall(HALL_OLD_WAYS);
+    HOLDS(share[2] == 10581480 && move(t.n, t) == HALL_TOO_MANY_WAYS);
+    t = old_hall(HALL_OLD_WAYS + 1);
+    HOLDS(move(t.n, t) == HALL_BAD_TABLES);
+    /* a stray write, also one that the division or 16 or 32 bits would lose */
+    t = old_hall(12);
+    share[2]++;
+    HOLDS(share[2] / 8398 == 2310 && move(t.n, t) == HALL_BAD_TABLES);
+    score[2]++;
+    HOLDS(move(t.n, t) == HALL_BAD_TABLES);
+    share[2]--;
+    HOLDS(move(t.n, t) == HALL_BAD_TABLES);
+    score[2]--;
+    share[13] += UINT64_C(1) << 32;
+    HOLDS(move(t.n, t) == HALL_BAD_TABLES);
+    share[13] -= UINT64_C(1) << 32;
+    ways[1] += 65536;
+    HOLDS(move(t.n, t) == HALL_BAD_TABLES);
+    ways[1] -= 65536;
+    time[1]++;
+    HOLDS(move(t.n, t) == HALL_BAD_TABLES);
+    time[1]--;
+    cost[2 * t.n + 1]++;
+    HOLDS(move(t.n, t) == HALL_BAD_TABLES);
+    cost[2 * t.n + 1]--;
+    HOLDS(move(t.n, t) == HALL_ACCEPTED);
+}
+
+/* Links from stop 0 to all others and back: all routes of the largest hall pass it, and its score, moved over, fits 32 bits. */
+static void largest_score(void)
+{
+    hall_tables t = tables_of(HALL_STOPS);
+
+    memset(cost, 0, sizeof cost);
+    for (uint64_t v = 1; v < t.n; v++)
+        cost[v] = cost[v * t.n] = 1;
+    HOLDS(hall_work_out(t.n, HALL_TABLES(t)) == HALL_ACCEPTED && score[0] == 108274320);
+    for (int i = 0; i < MOST; i++)
+        share[i] *= 8398;
+    score[0] *= 8398;
+    HOLDS(score[0] == 909287739360 && move(t.n, t) == HALL_ACCEPTED);
+    HOLDS(score[0] == 108274320 && (uint32_t)score[0] == score[0] && hall_audit(t.n, HALL_TABLES(t)) == HALL_ACCEPTED);
+}
+
 /* All links of the largest hall make the longest image. */
 static void longest_image(void)
 {
@@ -277,6 +391,9 @@ int main(void)
     ways_in_16_bits();
     reversed();
     listed();
+    moved();
+    not_moved();
+    largest_score();
     longest_image();
     return wrong != 0;
 }

@@ -4,7 +4,7 @@ use mathlib.Core.Path.{_≡_, refl, _∙_, ap}
 use mathlib.Core.Bool.{Bool, true, false, cond}
 use mathlib.Core.List.{List, []}
 use Rattle.book.specs.Hall.{Tables}
-use Rattle.book.specs.Call.{Ask, emptyHall, audit, workOut, edit, editList, imageWrite, imageRead, Call, accepted, Answer, refusedAt, Rule, rule, reply, refusal, answer, Done}
+use Rattle.book.specs.Call.{Ask, emptyHall, audit, moveOver, workOut, edit, editList, imageWrite, imageRead, Call, accepted, Answer, refusedAt, Rule, rule, reply, refusal, answer, Done}
 use Rattle.book.specs.Book.{Book, bookRefusal, bookAnswer}
 use Rattle.book.specs.declared.Refusal.{Refusal}
 use Rattle.book.specs.declared.Refusal.the-variants.{Accepted, BadSize, BadLength, BadTables, BadStop, BadCost, LinkPresent, LinkAbsent, CostWrongSide, BadImage, ShortBuffer, TooManyWays, ListTooLong}
@@ -14,6 +14,7 @@ says-accepted : (n : ℕ) (ask : Ask) (cost : List ℕ) → rule n ask cost .say
 unfolding rule
 says-accepted n emptyHall cost = refl
 says-accepted n audit cost = refl
+says-accepted n moveOver cost = refl
 says-accepted n (workOut c) cost = refl
 says-accepted n (edit e) cost = refl
 says-accepted n (editList edits) cost = refl
@@ -58,6 +59,7 @@ NoBytes a = (a .length ≡ 0) × (a .buffer ≡ [])
 unfoldable pub Parts : Ask → Answer → Type 0
 Parts emptyHall a = NoSet a × NoBytes a
 Parts audit a = NoSet a × NoBytes a
+Parts moveOver a = NoSet a × NoBytes a
 Parts (workOut cost) a = NoSet a × NoBytes a
 Parts (edit e) a = (a .place ≡ 0) × NoBytes a
 Parts (editList edits) a = (a .before ≡ 0) × NoBytes a
@@ -80,6 +82,7 @@ answer-parts c t = reply-either (Parts (c .ask)) (refusal c t) (rule (c .n) (c .
     said : (ask : Ask) → Parts ask (rule (c .n) ask (t .cost) .says)
     said emptyHall = ((refl, refl, refl, refl), (refl, refl))
     said audit = ((refl, refl, refl, refl), (refl, refl))
+    said moveOver = ((refl, refl, refl, refl), (refl, refl))
     said (workOut cost) = ((refl, refl, refl, refl), (refl, refl))
     said (edit e) = (refl, (refl, refl))
     said (editList edits) = (refl, (refl, refl))
@@ -89,6 +92,7 @@ answer-parts c t = reply-either (Parts (c .ask)) (refusal c t) (rule (c .n) (c .
     alone : (ask : Ask) → Parts ask (refusedAt (refusal c t) (rule (c .n) ask (t .cost) .place (refusal c t)) (rule (c .n) ask (t .cost) .lentBuffer))
     alone emptyHall = ((refl, refl, refl, refl), (refl, refl))
     alone audit = ((refl, refl, refl, refl), (refl, refl))
+    alone moveOver = ((refl, refl, refl, refl), (refl, refl))
     alone (workOut cost) = ((refl, refl, refl, refl), (refl, refl))
     alone (edit e) = (refl, (refl, refl))
     alone (editList edits) = (refl, (refl, refl))

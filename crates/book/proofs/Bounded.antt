@@ -17,16 +17,16 @@ use Rattle.routes.proofs.Flows.{flows}
 use Rattle.routes.proofs.Bounds.{score-limit}
 use Rattle.book.specs.Hall.{Tables, mostStops, largestCost, mostWays, scale, entry, filled, uncrowded}
 use Rattle.book.specs.Call.{Call, run, Answer, refusal, Done}
-use Rattle.book.specs.Book.{Step, kept, Sequence, Started}
+use Rattle.book.specs.Book.{Step, kept, Sequence, Start, Started}
 use Rattle.book.specs.declared.Refusal.the-variants.{Accepted}
 use Rattle.book.proofs.Tables.{entry-table, valid-costs}
 use Rattle.book.proofs.Answers.{done-refusal}
 use Rattle.book.proofs.Steps.{Held, accepted-held, accepted-filled}
 use Rattle.book.proofs.Sequence.{of-books}
 
--- no score passes 63 × 62 × L = 909,287,739,360, no time but the mark 63 × 65,535 = 4,128,705, and no pair has more than 22 ways
+-- no score passes 63 × 62 × L = 108,274,320, which fits 32 bits, no time but the mark 63 × 65,535 = 4,128,705, and no pair has more than 12 ways
 pub record Bounded (n : ℕ) (t : Tables) : Type 0 where
-  pub scores : (v : ℕ) → getD (t .score) v 0 ≤ 909287739360
+  pub scores : (v : ℕ) → getD (t .score) v 0 ≤ 108274320
   pub times : (s v : ℕ) → s < n → v < n → entry n (t .time) s v ≢ mark → entry n (t .time) s v ≤ 4128705
   pub counts : (s v : ℕ) → s < n → v < n → entry n (t .ways) s v ≤ mostWays
 
@@ -40,11 +40,11 @@ module _ (n : ℕ) (cost : List ℕ) (h : Held n cost) where
   small : n * largestCost < mark
   small = omega (arith, mul-le-mul-right largestCost most)
 
-  score-bound : (v : ℕ) → getD (filled scale n cost .score) v 0 ≤ 909287739360
+  score-bound : (v : ℕ) → getD (filled scale n cost .score) v 0 ≤ 108274320
   unfolding filled
   score-bound v = go (ltb v n) refl
     where
-      go : (b : Bool) → ltb v n ≡ b → getD (listTo n (score W n scale)) v 0 ≤ 909287739360
+      go : (b : Bool) → ltb v n ≡ b → getD (listTo n (score W n scale)) v 0 ≤ 108274320
       go true e =
           let l = ltb-true v n e in
           let few = score-limit W n scale v most l (λ s k. flows W n s largestCost k (valid-costs n cost (h .valid) .most) small) in
@@ -78,5 +78,5 @@ accepted-bounded c t t′ a d ok =
     subst⁻¹ (Bounded (c .n)) (d .left ∙ accepted-filled c t taken) (bounded (c .n) _ (accepted-held c t taken))
 
 -- the tables after every sequence of calls
-pub sequence-bounded : (N : ℕ) (start : Tables) (steps : List Step) → Started N start → Sequence start steps → Bounded N (run kept steps start)
-sequence-bounded N start steps from made = of-books N start from (Bounded N) steps made (bounded N)
+pub sequence-bounded : (from : Start) (N : ℕ) (start : Tables) (steps : List Step) → Started from N start → Sequence start steps → Bounded N (run kept steps start)
+sequence-bounded from N start steps begun made = of-books from N start begun (Bounded N) steps made (bounded N)

@@ -12,7 +12,7 @@ use lib.Seq.{take-append-seam}
 use borrow.Author.Tests.{eqb-true, eq-eqb, ne-eqb, leb-true, le-leb}
 use Rattle.routes.specs.Route.{Costs, allTo, ways, through, portion}
 use Rattle.routes.proofs.Sums.{all-true}
-use Rattle.book.specs.Hall.{Tables, mostStops, mostWays, scale, upTo, entry, filled, sized, validPair, validCosts, uncrowded, right, imageOf, isImage, costsOf}
+use Rattle.book.specs.Hall.{Tables, mostStops, mostWays, scale, oldMostWays, oldScale, upTo, entry, filled, sized, validPair, validCosts, uncrowded, right, imageOf, isImage, costsOf}
 use Rattle.book.specs.Call.{Call, audit, edit, imageWrite, imageRead, accepted, costTests, withEdit, Rule, rule, Answer, refusal, after, answer}
 use Rattle.book.proofs.Bytes.{Bytes}
 use Rattle.book.proofs.Images.{written-read, written-costs, read-written, read-valid, length-read}
@@ -22,11 +22,22 @@ use Rattle.book.proofs.NoLinks.{valid-none, uncrowded-none}
 use Rattle.book.specs.declared.Edit.{Edit}
 use Rattle.book.specs.declared.Refusal.the-variants.{Accepted, BadStop, BadImage, TooManyWays}
 
--- every number of ways that a pair may have divides the scale
+-- 1 to m divide L, tested one by one
+abbrev pub allDivide : (m L : ℕ) → Bool
+allDivide m L = allTo m (λ i. eqb (L % suc i) 0)
+
+divides : (m L : ℕ) → allDivide m L ≡ true → (k : ℕ) → 0 < k → k ≤ m → k ∣ L
+divides m L all zero z h = absurd (lt-irrefl 0 z)
+divides m L all (suc k) z h = dvd-of-mod-eq-zero (suc k) (eqb-true (L % suc k) 0 (all-true m (λ i. eqb (L % suc i) 0) all k h))
+
+-- every number of ways that a pair may have divides the scale, and every one that it might have divides the old scale
 pub whole : (k : ℕ) → 0 < k → k ≤ mostWays → k ∣ scale
 unfolding allTo
-whole zero z h = absurd (lt-irrefl 0 z)
-whole (suc k) z h = dvd-of-mod-eq-zero (suc k) (eqb-true (scale % suc k) 0 (all-true 22 (λ i. eqb (scale % suc i) 0) refl k h))
+whole = divides mostWays scale refl
+
+pub whole-old : (k : ℕ) → 0 < k → k ≤ oldMostWays → k ∣ oldScale
+unfolding allTo
+whole-old = divides oldMostWays oldScale refl
 
 -- so what a pair adds to a share is exact: times its ways, it is the scale times the ways through v
 pub exact : (W : Costs) (n s v t : ℕ) → 0 < ways W n s t → ways W n s t ≤ mostWays → t ≢ s → t ≢ v →

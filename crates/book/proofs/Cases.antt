@@ -5,22 +5,31 @@ use mathlib.Core.Path.{_≡_, refl}
 use mathlib.Core.Bool.{Bool, true, false, _&&_}
 use mathlib.Core.List.{List, [], _∷_, _++_, map}
 use lib.ListN.{replicate, drop}
-use lib.Dec.{eqb}
+use lib.Dec.{eqb, ltb}
 use Rattle.routes.specs.Route.{mark, sumTo, joinTo, listTo, allTo, same, setOf, count, visits, uses, time, least, extend, hops, routes, leastTime, quickest, ways, through, portion, share, used, score}
-use Rattle.book.specs.Hall.{Tables, mostStops, largestCost, mostWays, scale, filled, sized, validCosts, uncrowded, right, touched, lowFirst, field, imageOf, validRecord, isImage, costsOf}
+use Rattle.book.specs.Hall.{Tables, mostStops, largestCost, mostWays, scale, oldMostWays, oldScale, oldPerNew, filled, sized, validCosts, uncrowded, right, touched, lowFirst, field, imageOf, validRecord, isImage, costsOf}
 use Rattle.book.specs.Call.{Call, Ask, emptyHall, audit, workOut, edit, editList, number, run, touchedBy, judged, rule, Answer, refusal, after, answer, reversal}
 use Rattle.book.specs.Book.{Step, kept, noLinks, bookRefusal, bookAfter, bookAnswer, bookAnswers}
+use Rattle.book.proofs.Calls.{allDivide}
 use Rattle.book.proofs.Sequence.{stepsOf}
 use Rattle.book.specs.declared.Edit.{Edit}
 use Rattle.book.specs.declared.Kind.{Kind}
 use Rattle.book.specs.declared.Kind.the-variants.{Insert, Cheapen, Raise, Delete}
 
--- document 01's numbers: the largest time, the bound of scores, the mark in 32 bits; 1 to 22 divide the scale, 23 does not
+-- the documents' numbers: the largest time, the bound of scores, which fits 32 bits, and the mark in 32 bits; 1 to 12 divide the scale, 13
+-- does not
 pub numbers :
-    ((mostStops - 1) * largestCost ≡ 4128705) × ((mostStops - 1) * (mostStops - 2) * scale ≡ 909287739360) × (mark + 1 ≡ 2 ^ 32) ×
-    (allTo (mostWays + 1) (λ k. eqb (scale % (k + 1)) 0) ≡ false) × (allTo mostWays (λ k. eqb (scale % (k + 1)) 0) ≡ true)
+    ((mostStops - 1) * largestCost ≡ 4128705) × ((mostStops - 1) * (mostStops - 2) * scale ≡ 108274320) × (ltb 108274320 (2 ^ 32) ≡ true) × (mark + 1 ≡ 2 ^ 32) ×
+    (allDivide mostWays scale ≡ true) × (allDivide (mostWays + 1) scale ≡ false)
 unfolding allTo
-numbers = (refl, refl, refl, refl, refl)
+numbers = (refl, refl, refl, refl, refl, refl)
+
+-- the present limit and scale beside the old ones: 1 to 22 divide the old scale, 23 does not, and 8,398 is the quotient of the scales
+pub old-numbers :
+    (mostWays ∷ scale ∷ oldMostWays ∷ oldScale ∷ oldPerNew ∷ [] ≡ 12 ∷ 27720 ∷ 22 ∷ 232792560 ∷ 8398 ∷ []) × (232792560 ≡ 27720 * 8398) ×
+    (allDivide oldMostWays oldScale ≡ true) × (allDivide (oldMostWays + 1) oldScale ≡ false)
+unfolding allTo
+old-numbers = (refl, refl, refl, refl)
 
 -- the image of document 01's example, worked out by hand; it is read back, and not if a byte is missing
 pub image-worked :

@@ -5,7 +5,7 @@ use mathlib.Core.List.{List, []}
 use Prim.Native.Nat.{ℕ}
 use Rattle.book.specs.Hall.{Tables}
 use Rattle.book.specs.Call.{Answer}
-use Rattle.book.specs.Contract.{Param, found, left, leftBeside, ofRefusal, ofEdit, ofList, ofWrite}
+use Rattle.book.specs.Contract.{Param, found, left, leftBeside, leftShares, ofRefusal, ofEdit, ofList, ofWrite}
 use Rattle.book.specs.declared.EditAnswer.{EditAnswer}
 use Rattle.book.specs.declared.ListAnswer.{ListAnswer}
 use Rattle.book.specs.declared.WriteAnswer.{WriteAnswer}
@@ -24,6 +24,9 @@ module _ (cost time ways share score : Param) where
 
   pub beside-so : Are (leftBeside cost time ways share score) (cost .entry .now) (time .exit .now) (ways .exit .now) (share .exit .now) (score .exit .now)
   beside-so = (refl, refl, refl, refl, refl)
+
+  pub shares-so : Are (leftShares cost time ways share score) (cost .entry .now) (time .entry .now) (ways .entry .now) (share .exit .now) (score .exit .now)
+  shares-so = (refl, refl, refl, refl, refl)
 
 -- the answer has these parts, in the order of the record
 abbrev Says : Answer → Refusal → (place touched rows before length : ℕ) → (buffer : List ℕ) → Type 0

@@ -1,14 +1,14 @@
 -- Each call at the corners of its rules, on tables that are right, damaged or too short: one table, one theorem.
 -- Assumes nothing.
-use Prim.Native.Nat.{ℕ}
+use Prim.Native.Nat.{ℕ, _+_}
 use mathlib.Core.Path.{_≡_, refl}
 use mathlib.Core.Bool.{Bool, true, _&&_, _||_}
 use mathlib.Core.List.{List, [], _∷_, _++_, map}
 use lib.ListN.{replicate, take, drop}
 use lib.Dec.{eqb}
 use Rattle.routes.specs.Route.{mark, sumTo, joinTo, listTo, allTo, same, setOf, count, visits, uses, time, least, extend, hops, routes, leastTime, quickest, ways, through, portion, share, used, score}
-use Rattle.book.specs.Hall.{Tables, scale, filled, sized, validCosts, uncrowded, right, touched, lowFirst, field, imageOf, validRecord, isImage, costsOf}
-use Rattle.book.specs.Call.{Call, Ask, emptyHall, audit, workOut, editList, imageWrite, imageRead, number, run, touchedBy, judged, rule, Answer, refusal, after, answer, imageCheck}
+use Rattle.book.specs.Hall.{Tables, scale, oldScale, filled, sized, validCosts, uncrowded, right, touched, lowFirst, field, imageOf, validRecord, isImage, costsOf}
+use Rattle.book.specs.Call.{Call, Ask, emptyHall, audit, moveOver, workOut, editList, imageWrite, imageRead, number, run, touchedBy, judged, rule, Answer, refusal, after, answer, imageCheck}
 use Rattle.book.specs.Book.{noLinks, bookRefusal, bookAfter, bookAnswer, bookAnswers}
 use Rattle.book.proofs.Refused.{bufferOf}
 use Rattle.book.proofs.Cases.{editOf, change}
@@ -22,24 +22,31 @@ lineCosts = 0 ∷ 1 ∷ 0 ∷ 0 ∷ 0 ∷ 1 ∷ 0 ∷ 0 ∷ 0 ∷ []
 abbrev pub lineImage : List ℕ
 lineImage = 0 ∷ 1 ∷ 1 ∷ 0 ∷ 1 ∷ 2 ∷ 1 ∷ 0 ∷ 3 ∷ 1 ∷ 2 ∷ 0 ∷ 8 ∷ 0 ∷ 0 ∷ 0 ∷ []
 
--- its tables, but with these ways from 0 to 2 and these scores
-abbrev pub lineTables : ℕ → List ℕ → Tables
-lineTables w scores = record {
+-- its tables by the scale L, but with these ways from 0 to 2 and these scores
+abbrev pub lineTables : (L w : ℕ) → List ℕ → Tables
+lineTables L w scores = record {
   cost = lineCosts;
   time = 0 ∷ 1 ∷ 2 ∷ mark ∷ 0 ∷ 1 ∷ mark ∷ mark ∷ 0 ∷ [];
   ways = 1 ∷ 1 ∷ w ∷ 0 ∷ 1 ∷ 1 ∷ 0 ∷ 0 ∷ 1 ∷ [];
-  share = 0 ∷ scale ∷ 0 ∷ 0 ∷ 0 ∷ 0 ∷ 0 ∷ 0 ∷ 0 ∷ [];
+  share = 0 ∷ L ∷ 0 ∷ 0 ∷ 0 ∷ 0 ∷ 0 ∷ 0 ∷ 0 ∷ [];
   score = scores;
 }
 
 abbrev pub line : Tables
-line = lineTables 1 (0 ∷ scale ∷ 0 ∷ [])
+line = lineTables scale 1 (0 ∷ scale ∷ 0 ∷ [])
 
 abbrev pub damaged : Tables
-damaged = lineTables 2 (0 ∷ scale ∷ 0 ∷ [])
+damaged = lineTables scale 2 (0 ∷ scale ∷ 0 ∷ [])
 
 abbrev pub short : Tables
-short = lineTables 1 (0 ∷ scale ∷ [])
+short = lineTables scale 1 (0 ∷ scale ∷ [])
+
+-- its tables by the old numbers, and those with a share and a score that is one too large
+abbrev pub oldLine : Tables
+oldLine = lineTables oldScale 1 (0 ∷ oldScale ∷ 0 ∷ [])
+
+abbrev pub oldDamaged : Tables
+oldDamaged = lineTables (oldScale + 1) 1 (0 ∷ (oldScale + 1) ∷ 0 ∷ [])
 
 -- its other four tables beside costs that have a link from 0 to 2 of cost c too
 abbrev pub direct : ℕ → Tables
@@ -54,6 +61,10 @@ shortOf cost time ways share = record {
   share = drop share (line .share);
   score = line .score;
 }
+
+-- the tables of two stops with a link, in which no share is above 0
+abbrev pub pairTables : Tables
+pairTables = record { cost = 0 ∷ 9 ∷ 0 ∷ 0 ∷ []; time = 0 ∷ 9 ∷ mark ∷ 0 ∷ []; ways = 1 ∷ 1 ∷ 0 ∷ 1 ∷ []; share = replicate 4 0; score = replicate 2 0 }
 
 -- a call on tables, and its refusal
 pub record Corner : Type 0 where
@@ -91,9 +102,15 @@ corners =
     corner 3 damaged (workOut lineCosts) 0 ∷ corner 3 line (workOut (65536 ∷ [])) 2 ∷ corner 3 line (workOut (0 ∷ 65536 ∷ drop 2 lineCosts)) 5 ∷
     corner 3 line (workOut (lineCosts ++ (0 ∷ []))) 2 ∷ corner 3 line (workOut (0 ∷ 65535 ∷ drop 2 lineCosts)) 0 ∷ corner 3 line (workOut (1 ∷ drop 1 lineCosts)) 5 ∷ corner 0 line (workOut []) 1 ∷
     -- audit
-    corner 3 line audit 0 ∷ corner 3 damaged audit 3 ∷ corner 3 short audit 2 ∷ corner 4 line audit 2 ∷ corner 3 (lineTables 1 (0 ∷ 0 ∷ 0 ∷ [])) audit 3 ∷
+    corner 3 line audit 0 ∷ corner 3 damaged audit 3 ∷ corner 3 short audit 2 ∷ corner 4 line audit 2 ∷ corner 3 (lineTables scale 1 (0 ∷ 0 ∷ 0 ∷ [])) audit 3 ∷
     -- a cost that no quickest route uses may differ, one that ties or improves may not
     corner 3 (direct 5) audit 0 ∷ corner 3 (direct 6) audit 0 ∷ corner 3 (direct 2) audit 3 ∷ corner 3 (direct 1) audit 3 ∷
+    -- the moving call: tables of the old numbers, damaged or short ones, another n; tables of the new ones, with shares and without
+    corner 3 oldLine moveOver 0 ∷ corner 3 oldDamaged moveOver 3 ∷ corner 3 (lineTables oldScale 2 (0 ∷ oldScale ∷ 0 ∷ [])) moveOver 3 ∷
+    corner 3 (lineTables oldScale 1 (0 ∷ oldScale ∷ [])) moveOver 2 ∷ corner 4 oldLine moveOver 2 ∷ corner 0 oldLine moveOver 1 ∷ corner 3 line moveOver 3 ∷
+    corner 2 pairTables moveOver 0 ∷
+    -- but to the other calls those of the old numbers are damaged
+    corner 3 oldLine audit 3 ∷ corner 3 oldLine (change Insert 0 2 5) 3 ∷ corner 3 oldLine (imageWrite (replicate 16 7)) 3 ∷
     -- edits: 3 before 4, 4 before 5, 5 before 6, 7 and 8, 7 before 8; a raise has its 8 on the other side; a delete's cost is not read
     corner 3 damaged (change Insert 3 3 0) 3 ∷ corner 3 line (change Insert 3 1 0) 4 ∷ corner 3 line (change Insert 0 1 0) 5 ∷ corner 3 line (change Insert 0 1 5) 6 ∷
     corner 3 line (change Insert 0 1 65536) 5 ∷ corner 3 line (change Cheapen 0 2 65536) 5 ∷
@@ -113,17 +130,19 @@ corners =
     corner 3 line (imageRead (0 ∷ 1 ∷ 1 ∷ 0 ∷ 0 ∷ 1 ∷ drop 6 lineImage)) 9 ∷ corner 3 line (imageRead (0 ∷ 1 ∷ 0 ∷ drop 3 lineImage)) 9 ∷
     corner 3 line (imageRead (take 8 lineImage ++ (2 ∷ drop 9 lineImage))) 9 ∷ []
 
-pub corners-hold : map answersSo corners ≡ replicate 62 true
+pub corners-hold : map answersSo corners ≡ replicate 73 true
 unfolding answersSo sumTo joinTo listTo allTo same setOf count visits uses time least extend hops routes leastTime quickest ways through portion share used score filled sized validCosts uncrowded right touched touchedBy judged lowFirst field imageOf validRecord isImage costsOf run rule refusal after answer
 corners-hold = refl
 
--- what accepted calls leave on these tables: no links, the costs brought, those of the image, those of the edit; and the tables as they were
+-- what accepted calls leave on these tables: no links, the costs brought, those of the image, those of the edit; the tables as they were; and
+-- of the tables of the old numbers those of the new ones
 pub leaves-so :
     let left : Tables → Ask → List ℕ = λ t ask. flat (after (record { n = 3; ask = ask }) t) in
     (take 9 (left damaged emptyHall) ≡ replicate 9 0) × (left (direct 5) (workOut lineCosts) ≡ flat line) × (left (direct 5) (imageRead lineImage) ≡ flat line) ×
-    (take 9 (left line (change Insert 0 2 5)) ≡ 0 ∷ 1 ∷ 5 ∷ drop 3 lineCosts) × (left line audit ≡ flat line) × (left line (imageWrite (replicate 16 7)) ≡ flat line)
+    (take 9 (left line (change Insert 0 2 5)) ≡ 0 ∷ 1 ∷ 5 ∷ drop 3 lineCosts) × (left line audit ≡ flat line) × (left line (imageWrite (replicate 16 7)) ≡ flat line) ×
+    (left oldLine moveOver ≡ flat line)
 unfolding sumTo joinTo listTo allTo same setOf count visits uses time least extend hops routes leastTime quickest ways through portion share used score filled sized validCosts uncrowded right touched lowFirst field imageOf validRecord isImage costsOf rule refusal after
-leaves-so = (refl, refl, refl, refl, refl, refl)
+leaves-so = (refl, refl, refl, refl, refl, refl, refl)
 
 -- an image write answers its length and leaves the bytes past it
 pub writes-so : let a : Answer = answer (record { n = 3; ask = imageWrite (replicate 18 7) }) line in (a .length ≡ 16) × (a .buffer ≡ lineImage ++ (7 ∷ 7 ∷ []))
@@ -138,6 +157,14 @@ pub book-images :
     (map (λ a. a .buffer) said ≡ [] ∷ replicate 15 7 ∷ (lineImage ++ (7 ∷ 7 ∷ [])) ∷ []) × (run bookAfter calls (noLinks 3) .links ≡ lineCosts)
 unfolding sumTo joinTo listTo allTo count visits time least extend hops routes leastTime quickest ways validCosts uncrowded lowFirst field imageOf validRecord isImage costsOf rule bookRefusal bookAfter bookAnswer bookAnswers run
 book-images = (refl, refl, refl, refl)
+
+-- the book of moving calls: with no links, with a share above 0, after the link behind it is closed, and with another n
+pub book-moves :
+    let calls : List Call =
+    map (λ a. record { n = 3; ask = a }) (moveOver ∷ workOut lineCosts ∷ moveOver ∷ change Delete 1 2 0 ∷ moveOver ∷ []) ++ (record { n = 2; ask = moveOver } ∷ []) in
+    (map (λ a. number (a .refusal)) (bookAnswers calls (noLinks 3)) ≡ 0 ∷ 0 ∷ 3 ∷ 0 ∷ 0 ∷ 2 ∷ []) × (run bookAfter calls (noLinks 3) .links ≡ 0 ∷ 1 ∷ replicate 7 0)
+unfolding sumTo joinTo listTo allTo same setOf count visits uses time least extend hops routes leastTime quickest ways through portion share used score filled sized validCosts uncrowded right touched rule bookRefusal bookAfter bookAnswer bookAnswers run
+book-moves = (refl, refl)
 
 -- the place that a refused list tells: none for 1, 2, 3 and 12, though its first edit would be refused too
 pub places-so :

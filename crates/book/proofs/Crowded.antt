@@ -1,9 +1,9 @@
--- Halls of seven stops with exactly 22 ways of a pair, and with more: refusal 11 by work out, image read, insert, raise and delete,
+-- Halls of six stops with exactly 12 ways of a pair, and with more: refusal 11 by work out, image read, insert, raise and delete,
 -- and what is told before it, computed over the book, which demand 3 ties to the tables. lister_try writes the scores of `fewer` too.
 -- Assumes nothing.
 use Prim.Native.Nat.{ℕ, _-_}
 use mathlib.Core.Path.{_≡_, refl}
-use mathlib.Core.Bool.{cond, not, _&&_, _||_}
+use mathlib.Core.Bool.{Bool, cond, not, _&&_, _||_}
 use mathlib.Core.List.{List, [], _∷_, _++_, map}
 use lib.ListN.{replicate, take, drop}
 use lib.Dec.{eqb}
@@ -19,80 +19,83 @@ use Rattle.book.specs.declared.Kind.the-variants.{Insert, Cheapen, Raise
 
 -- from each stop to every later one a link as long as the links over all stops between
 abbrev pub dense : List ℕ
-dense = table 7 (λ u v. v - u)
+dense = table 6 (λ u v. v - u)
 
--- the same, but to stop 6 only from 2, 3 and 5
+-- the same with n stops, but to the last only from these; with six, only from 3 and 4
+abbrev pub towards : (n : ℕ) → (ℕ → Bool) → List ℕ
+towards n from = table n (λ u v. cond (eqb v (n - 1) && not (from u)) 0 (v - u))
+
 abbrev pub fewer : List ℕ
-fewer = table 7 (λ u v. cond (eqb v 6 && not (eqb u 2 || (eqb u 3 || eqb u 5))) 0 (v - u))
+fewer = towards 6 (λ u. eqb u 3 || eqb u 4)
 
--- the same, but a link of cost c from 0 to 6, which below 6 is quicker than all others
+-- the first, but a link of cost c from 0 to 5, which below 5 is quicker than all others
 abbrev pub quicker : ℕ → List ℕ
-quicker c = table 7 (λ u v. cond (eqb u 0 && eqb v 6) c (v - u))
+quicker c = table 6 (λ u v. cond (eqb u 0 && eqb v 5) c (v - u))
 
 -- the image of the first hall, and one that is none: its kind is 2
 abbrev pub denseImage : List ℕ
-denseImage = imageOf 7 dense
+denseImage = imageOf 6 dense
 
 abbrev pub otherKind : List ℕ
-otherKind = take 85 denseImage ++ (2 ∷ drop 86 denseImage)
+otherKind = take 61 denseImage ++ (2 ∷ drop 62 denseImage)
 
--- what the book says to these calls with n = 7, and the links that it has after them
+-- what the book says to these calls with n = 6, and the links that it has after them
 abbrev pub calls : List Ask → List Call
-calls asks = map (λ a. record { n = 7; ask = a }) asks
+calls asks = map (λ a. record { n = 6; ask = a }) asks
 
 abbrev pub told : List Ask → List ℕ
-told asks = map (λ a. number (a .refusal)) (bookAnswers (calls asks) (noLinks 7))
+told asks = map (λ a. number (a .refusal)) (bookAnswers (calls asks) (noLinks 6))
 
 abbrev pub left : List Ask → List ℕ
-left asks = run bookAfter (calls asks) (noLinks 7) .links
+left asks = run bookAfter (calls asks) (noLinks 6) .links
 
--- 32 ways from 0 to 6: refused by work out and image read, behind 5 and 9
+-- 16 ways from 0 to 5: refused by work out and image read, behind 5 and 9
 abbrev pub more : List Ask
 more = workOut dense ∷ workOut (1 ∷ drop 1 dense) ∷ imageRead denseImage ∷ imageRead otherKind ∷ audit ∷ []
 
--- exactly 22 ways from 0 to 6: accepted; the link 1 to 6 would make them 23, but 7 comes before 11
+-- exactly 12 ways from 0 to 5: accepted; the link 1 to 5 would make them 13, but 7 comes before 11
 abbrev pub most : List Ask
-most = workOut fewer ∷ change Insert 1 6 5 ∷ change Cheapen 1 6 5 ∷ change Raise 1 6 5 ∷ audit ∷ []
+most = workOut fewer ∷ change Insert 1 5 4 ∷ change Cheapen 1 5 4 ∷ change Raise 1 5 4 ∷ audit ∷ []
 
--- one way from 0 to 6: without its link there would be 31, and with a cost of 6 there would be 32, but 6 and 8 come before 11; a raise
--- from 4 to 5 leaves the one way
+-- one way from 0 to 5: without its link there would be 15, and with a cost of 5 there would be 16, but 6 and 8 come before 11; a raise
+-- from 3 to 4 leaves the one way
 abbrev pub one : List Ask
-one = workOut (quicker 4) ∷ change Delete 0 6 0 ∷ change Raise 0 6 5 ∷ change Raise 0 6 6 ∷ change Insert 0 6 6 ∷ change Cheapen 0 6 6 ∷ audit ∷ []
+one = workOut (quicker 3) ∷ change Delete 0 5 0 ∷ change Raise 0 5 4 ∷ change Raise 0 5 5 ∷ change Insert 0 5 5 ∷ change Cheapen 0 5 5 ∷ audit ∷ []
 
 pub crowded-told :
-    (told more ≡ 11 ∷ 5 ∷ 11 ∷ 9 ∷ 0 ∷ []) × (left more ≡ replicate 49 0) × (told most ≡ 0 ∷ 11 ∷ 7 ∷ 7 ∷ 0 ∷ []) × (left most ≡ fewer) ×
-    (told one ≡ 0 ∷ 11 ∷ 0 ∷ 11 ∷ 6 ∷ 8 ∷ 0 ∷ []) × (left one ≡ quicker 5)
+    (told more ≡ 11 ∷ 5 ∷ 11 ∷ 9 ∷ 0 ∷ []) × (left more ≡ replicate 36 0) × (told most ≡ 0 ∷ 11 ∷ 7 ∷ 7 ∷ 0 ∷ []) × (left most ≡ fewer) ×
+    (told one ≡ 0 ∷ 11 ∷ 0 ∷ 11 ∷ 6 ∷ 8 ∷ 0 ∷ []) × (left one ≡ quicker 4)
 unfolding sumTo joinTo listTo allTo count visits time least extend hops routes leastTime quickest ways validCosts uncrowded lowFirst field imageOf validRecord isImage costsOf rule bookRefusal bookAfter bookAnswer bookAnswers run
 crowded-told = (refl, refl, refl, refl, refl, refl)
 
--- a list that would leave the hall with a link of 5 is refused at its second edit: without the link
--- there are 31 ways in passing
+-- a list that would leave the hall with a link of 4 is refused at its second edit: without the link
+-- there are 15 ways in passing
 pub crowded-passing :
-    let edits : List Edit = editOf Raise 0 6 5 ∷ editOf Delete 0 6 0 ∷ editOf Insert 0 6 5 ∷ [] in
-    let b : Book = record { stops = 7; links = quicker 4 } in
-    let a : Answer = bookAnswer (record { n = 7; ask = editList edits }) b in
-    (number (a .refusal) ∷ a .place ∷ [] ≡ 11 ∷ 2 ∷ []) × (withEdits 7 edits (quicker 4) ≡ quicker 5)
+    let edits : List Edit = editOf Raise 0 5 4 ∷ editOf Delete 0 5 0 ∷ editOf Insert 0 5 4 ∷ [] in
+    let b : Book = record { stops = 6; links = quicker 3 } in
+    let a : Answer = bookAnswer (record { n = 6; ask = editList edits }) b in
+    (number (a .refusal) ∷ a .place ∷ [] ≡ 11 ∷ 2 ∷ []) × (withEdits 6 edits (quicker 3) ≡ quicker 4)
 unfolding sumTo joinTo listTo allTo count visits time least extend hops routes leastTime quickest ways validCosts uncrowded judged rule bookRefusal bookAfter bookAnswer run
 crowded-passing = (refl, refl)
 
 -- the same of tables: the delete on those of the last hall
-pub crowded-delete : refusal (record { n = 7; ask = change Delete 0 6 0 }) (filled scale 7 (quicker 5)) ≡ TooManyWays
+pub crowded-delete : refusal (record { n = 6; ask = change Delete 0 5 0 }) (filled scale 6 (quicker 4)) ≡ TooManyWays
 unfolding joinTo listTo allTo count visits time least extend hops routes leastTime quickest ways validCosts uncrowded rule bookRefusal
 crowded-delete =
-    refusal-book (record { n = 7; ask = change Delete 0 6 0 }) (record { stops = 7; links = quicker 5 })
+    refusal-book (record { n = 6; ask = change Delete 0 5 0 }) (record { stops = 6; links = quicker 4 })
     (record { size = refl; square = refl; valid = refl; few = refl })
 
--- the scores of the hall with 22 ways, worked out apart
-pub most-scores : filled scale 7 fewer .score ≡ 0 ∷ 581981400 ∷ 952333200 ∷ 1068729480 ∷ 790083840 ∷ 881790000 ∷ 0 ∷ []
+-- the scores of the hall with 12 ways, worked out apart
+pub most-scores : filled scale 6 fewer .score ≡ 0 ∷ 55440 ∷ 83160 ∷ 97020 ∷ 69300 ∷ 0 ∷ []
 unfolding sumTo joinTo listTo count visits time least extend hops routes leastTime quickest ways through portion share score filled
 most-scores = refl
 
 -- the ways of that pair
-pub crowded-ways : (ways (entry 7 dense) 7 0 6 ≡ 32) × (ways (entry 7 fewer) 7 0 6 ≡ mostWays) × (ways (entry 7 (quicker 5)) 7 0 6 ≡ 1)
+pub crowded-ways : (ways (entry 6 dense) 6 0 5 ≡ 16) × (ways (entry 6 fewer) 6 0 5 ≡ mostWays) × (ways (entry 6 (quicker 4)) 6 0 5 ≡ 1)
 unfolding joinTo listTo count visits time least extend hops routes leastTime quickest ways
 crowded-ways = (refl, refl, refl)
 
 -- an image passes the check even so
-pub crowded-check : number (imageCheck 7 denseImage) ≡ 0
+pub crowded-check : number (imageCheck 6 denseImage) ≡ 0
 unfolding sumTo joinTo listTo allTo lowFirst field imageOf validRecord isImage imageCheck
 crowded-check = refl

@@ -11,12 +11,12 @@ use Rattle.routes.proofs.Sums.{all-cong}
 use Rattle.routes.proofs.Touched.{sameEntries, touched-row}
 use Rattle.book.specs.Hall.{mostStops, largestCost, scale, table, entry, filled, touched}
 use Rattle.book.specs.Call.{Call, edit, accepted, costSet, withEdit, rule, refusal, after, answer}
-use Rattle.book.specs.Book.{Book, EditFacts, changed}
+use Rattle.book.specs.Book.{Book, tablesOf, EditFacts, changed}
 use Rattle.book.specs.declared.Edit.{Edit}
 use Rattle.book.specs.declared.Refusal.the-variants.{Accepted}
 use Rattle.book.proofs.Tables.{entry-table, only-set, valid-costs}
 use Rattle.book.proofs.Passed.{up-to, Permitted, permitted}
-use Rattle.book.proofs.Steps.{Held, entry-edited, held-edited, tablesOf, accepted-book, refusal-book}
+use Rattle.book.proofs.Steps.{Held, entry-edited, held-edited, accepted-book, refusal-book}
 use Rattle.book.proofs.Reversals.{rule-reversed}
 use Rattle.book.proofs.Sets.{member, set-facts}
 
@@ -93,5 +93,5 @@ pub edited-book : (c : Call) (b : Book) (e : Edit) → Held (b .stops) (b .links
     refusal c (tablesOf b) ≡ Accepted → EditFacts (c .n) e (tablesOf b) (after c (tablesOf b)) (answer c (tablesOf b))
 unfolding after answer filled rule
 edited-book c b e h asked ok =
-    let (same, fits, tests) = accepted-book c b (ap accepted (sym (refusal-book c b h) ∙ ok)) in
+    let (same, fits, sound, tests) = accepted-book c b (ap accepted (sym (refusal-book c b h) ∙ ok)) in
     rw (ok, asked, ← same) (edited-rule (c .n) e (b .links) (rw same h) (rw asked at tests))

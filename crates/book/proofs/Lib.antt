@@ -12,6 +12,8 @@ pub mod Filled
 pub mod Passed
 pub mod Places
 pub mod Steps
+pub mod Moves
+pub mod Moved
 pub mod Audits
 pub mod Reversals
 pub mod Sets

@@ -14,7 +14,7 @@ use Rattle.routes.proofs.Booleans.{both}
 use Rattle.routes.proofs.Bits.{has-setOf}
 use Rattle.book.specs.Hall.{Tables, mostStops, mostEdits, mostWays, scale, filled, right, touched}
 use Rattle.book.specs.Call.{Call, audit, edit, editList, number, accepted, withEdit, editRefusal, run, withEdits, touchedBy, Verdict, judged, ofAnEdit, Answer, refusedAt, names, Rule, rule, reply, refusal, after, answer}
-use Rattle.book.specs.Book.{Book, SetFacts, changed}
+use Rattle.book.specs.Book.{Book, tablesOf, SetFacts, changed}
 use Rattle.book.specs.Contract.{Audited}
 use Rattle.book.specs.declared.Edit.{Edit}
 use Rattle.book.specs.declared.Refusal.{Refusal}
@@ -23,7 +23,7 @@ use Rattle.book.proofs.Filled.{sized-filled, right-filled, right-true}
 use Rattle.book.proofs.Passed.{need-true, accepted-only, passed, audited, up-to, permitted, judged-true}
 use Rattle.book.proofs.Answers.{answer-refusal, reply-either}
 use Rattle.book.proofs.Places.{none-told, edit-tells, accepted-place}
-use Rattle.book.proofs.Steps.{Held, held-right, held-edited, tablesOf, accepted-book, refusal-book}
+use Rattle.book.proofs.Steps.{Held, held-right, held-edited, accepted-book, refusal-book}
 use Rattle.book.proofs.Sets.{same-row, row-stays, set-facts}
 use Rattle.book.proofs.Edits.{row-changed}
 use Rattle.book.proofs.Calls.{leaves-tables}
@@ -57,7 +57,7 @@ pub listed-book : (c : Call) (b : Book) (edits : List Edit) → Held (b .stops) 
     refusal c (tablesOf b) ≡ Accepted → SetFacts (c .n) (touchedBy (c .n) edits (b .links)) (tablesOf b) (after c (tablesOf b)) (answer c (tablesOf b))
 unfolding after answer filled rule
 listed-book c b edits h asked ok =
-    let (same, fits, tests) = accepted-book c b (ap accepted (sym (refusal-book c b h) ∙ ok)) in
+    let (same, fits, sound, tests) = accepted-book c b (ap accepted (sym (refusal-book c b h) ∙ ok)) in
     rw (ok, asked, ← same) (listed-rule (c .n) edits (b .links) (rw same h) (rw asked at tests))
 
 -- an edit and a list of edits as calls

@@ -1,24 +1,24 @@
 -- Demand 3, and what follows from it. Assumes nothing.
-use Prim.Native.Nat.{ℕ, _+_, _*_, _<_}
+use Prim.Native.Nat.{ℕ, _+_, _<_}
 use mathlib.Core.Path.{_≡_, refl, sym, _∙_, ap, ap₂, subst, subst⁻¹}
 use mathlib.Core.Logic.{_≢_}
 use mathlib.Core.Bool.{Bool, true, cond, _&&_}
 use mathlib.Core.List.{List, [], _∷_, _++_, map}
 use lib.Dec.{ltb}
-use lib.ListN.{getD, replicate}
+use lib.ListN.{getD}
 use borrow.Author.Tests.{eq-eqb, lt-ltb}
 use Rattle.routes.specs.Route.{sumTo, has}
 use Rattle.routes.proofs.Sums.{sumTo-cong}
-use Rattle.book.specs.Hall.{Tables, mostStops, scale, upTo, entry, filled, sized, touched}
-use Rattle.book.specs.Call.{Call, emptyHall, workOut, edit, editList, run, touchedBy, rule, Answer, refusal, after, answer, Done, reversal}
-use Rattle.book.specs.Book.{Book, bookAfter, noLinks, bookAnswers, Step, callsOf, lent, kept, Sequence, Started, changed, SetFacts, EditFacts, Demand3}
+use Rattle.book.specs.Hall.{Tables, mostStops, scale, oldMostWays, oldScale, upTo, entry, filled, sized, right, touched}
+use Rattle.book.specs.Call.{Call, emptyHall, moveOver, workOut, edit, editList, run, touchedBy, need, rule, Answer, refusal, after, answer, Done, reversal}
+use Rattle.book.specs.Book.{Book, tablesOf, bookRefusal, bookAfter, bookAnswers, Step, callsOf, lent, kept, Sequence, Start, atEmptyHall, atMovedHall, startAsk, firstLinks, firstBook, Started, changed, SetFacts, EditFacts, Demand3}
 use Rattle.book.specs.declared.Edit.{Edit}
 use Rattle.book.specs.declared.Refusal.the-variants.{Accepted, BadTables}
 use Rattle.book.proofs.Filled.{sized-filled}
-use Rattle.book.proofs.Answers.{book-refusal, done-refusal}
-use Rattle.book.proofs.Passed.{passed}
+use Rattle.book.proofs.Answers.{answer-refusal, book-refusal, done-refusal}
 use Rattle.book.proofs.Refused.{kept-left}
-use Rattle.book.proofs.Steps.{Held, held-none, held-worked, held-after, tablesOf, answer-made, kept-made, never-bad}
+use Rattle.book.proofs.Steps.{Held, held-worked, held-after, accepted-held, accepted-filled, answer-made, kept-made, never-bad}
+use Rattle.book.proofs.Moves.{moving, move-leaves, old-moved, move-book, told-book, move-three}
 use Rattle.book.proofs.Edits.{edited-book}
 use Rattle.book.proofs.Lists.{listed-book}
 
@@ -73,23 +73,38 @@ listed-made s b edits h asked d ok =
     facts-made (SetFacts (s .call .n) (touchedBy (s .call .n) edits (b .links)) (tablesOf b)) s b
     (ap (λ ask. lent (record { n = s .call .n; ask = ask }) (tablesOf b)) asked) d ok (listed-book (s .call) b edits h asked)
 
-module _ (N : ℕ) (start : Tables) (from : Started N start) where
-  -- the tables of an empty hall, of which the book says that there are no links
-  held-first : Held N (replicate (N * N) 0)
-  held-first =
-      let ok = sym (done-refusal (record { n = N; ask = emptyHall }) (from .found) (from .done)) ∙ from .taken in
-      held-none N (passed (record { n = N; ask = emptyHall }) (from .found) ok .0)
+-- the costs that a call left from which a sequence starts are those of the book at first
+links-first : (from : Start) (N : ℕ) (found start : Tables) →
+    let leaves : List ℕ = rule N (startAsk from) (found .cost) .leaves in
+    start ≡ filled scale N leaves → leaves ≡ firstLinks from N start
+unfolding rule filled
+links-first atEmptyHall N found start e = refl
+links-first atMovedHall N found start e = sym (ap (λ t. t .cost) e)
 
-  start-book : start ≡ tablesOf (noLinks N)
-  unfolding after rule
-  start-book =
-      let ok = sym (done-refusal (record { n = N; ask = emptyHall }) (from .found) (from .done)) ∙ from .taken in
-      from .done .left ∙ rw ok
+module _ (from : Start) (N : ℕ) (start : Tables) (begun : Started from N start) where
+  abbrev opening : Call
+  opening = record { n = N; ask = startAsk from }
+
+  opened : refusal opening (begun .found) ≡ Accepted
+  opened = sym (done-refusal opening (begun .found) (begun .done)) ∙ begun .taken
+
+  start-filled : start ≡ filled scale N (rule N (startAsk from) (begun .found .cost) .leaves)
+  start-filled = begun .done .left ∙ accepted-filled opening (begun .found) opened
+
+  -- so the tables are that book's
+  held-first : Held N (firstLinks from N start)
+  held-first = subst (Held N) (links-first from N (begun .found) start start-filled) (accepted-held opening (begun .found) opened)
+
+  start-book : start ≡ tablesOf (firstBook from N start)
+  start-book = start-filled ∙ ap (filled scale N) (links-first from N (begun .found) start start-filled)
 
   -- after a sequence the five are the tables of a book, whose links are the sequence's
   at-end : (steps : List Step) → Sequence start steps →
-      (run kept steps start ≡ filled scale N (run bookAfter (callsOf steps) (noLinks N) .links)) × Held N (run bookAfter (callsOf steps) (noLinks N) .links)
-  at-end steps made = rw start-book (run-made steps (noLinks N) held-first (subst (λ t. Sequence t steps) start-book made))
+      let b : Book = run bookAfter (callsOf steps) (firstBook from N start) in
+      (run kept steps start ≡ filled scale N (b .links)) × Held N (b .links)
+  at-end steps made =
+      let (left, held) = run-made steps (firstBook from N start) held-first (subst (λ t. Sequence t steps) start-book made) in
+      (ap (run kept steps) start-book ∙ left, held)
 
   -- what holds of the tables of every book holds of them
   pub of-books : (P : Tables → Type 0) (steps : List Step) → Sequence start steps → ((links : List ℕ) → Held N links → P (filled scale N links)) → P (run kept steps start)
@@ -97,31 +112,48 @@ module _ (N : ℕ) (start : Tables) (from : Started N start) where
 
   -- a call in a sequence was made on the tables of a book
   at-step : (P : Tables → Type 0) (before rest : List Step) (s : Step) → Sequence start (before ++ s ∷ rest) →
-      ((b : Book) → Held (b .stops) (b .links) → Done (s .call) (lent (s .call) (tablesOf b)) (s .left) (s .answer) → P (tablesOf b)) → P (run kept before start)
+      ((b : Book) → b .stops ≡ N → Held (b .stops) (b .links) → Done (s .call) (lent (s .call) (tablesOf b)) (s .left) (s .answer) → P (tablesOf b)) →
+      P (run kept before start)
   at-step P before rest s made facts =
       let (part, d, more) = front before s rest start made in
-      of-books (λ t. Done (s .call) (lent (s .call) t) (s .left) (s .answer) → P t) before part (λ links h d. facts (record { stops = N; links = links }) h d) d
+      of-books (λ t. Done (s .call) (lent (s .call) t) (s .left) (s .answer) → P t) before part (λ links h d. facts (record { stops = N; links = links }) refl h d) d
 
 -- demand 3
 pub demand3 : Demand3
 unfolding Demand3
-demand3 N start steps from made = (
-  at-end N start from steps made .0,
-  answers-made steps (noLinks N) (held-first N start from) (subst (λ t. Sequence t steps) (start-book N start from) made),
+demand3 from N start steps begun made = (
+  at-end from N start begun steps made .0,
+  answers-made steps (firstBook from N start) (held-first from N start begun) (subst (λ t. Sequence t steps) (start-book from N start begun) made),
   λ before rest s e split asked ok.
-      at-step N start from (λ t. EditFacts (s .call .n) e t (s .left) (s .answer)) before rest s (subst (Sequence start) split made)
-      (λ b h d. edited-made s b e h asked d ok),
+      at-step from N start begun (λ t. EditFacts (s .call .n) e t (s .left) (s .answer)) before rest s (subst (Sequence start) split made)
+      (λ b N-stops h d. edited-made s b e h asked d ok),
   λ before rest s edits split asked ok.
-      at-step N start from (λ t. SetFacts (s .call .n) (touchedBy (s .call .n) edits (t .cost)) t (s .left) (s .answer)) before rest s (subst (Sequence start) split made)
-      (λ b h d. listed-made s b edits h asked d ok),
+      at-step from N start begun (λ t. SetFacts (s .call .n) (touchedBy (s .call .n) edits (t .cost)) t (s .left) (s .answer)) before rest s (subst (Sequence start) split made)
+      (λ b N-stops h d. listed-made s b edits h asked d ok),
 )
 
--- every N from 1 to 64 has such tables to start from, and every list of calls such a sequence
+-- what an accepted empty hall or moving call leaves are such tables to start from
+pub sequence-from : (from : Start) (N : ℕ) (found : Tables) → let c : Call = record { n = N; ask = startAsk from } in
+    refusal c found ≡ Accepted → Started from N (after c found)
+sequence-from from N found ok =
+    let c : Call = record { n = N; ask = startAsk from } in
+    record { found = found; said = answer c found; done = record { left = refl; answered = refl }; taken = answer-refusal c found ∙ ok }
+
+-- of a moving call the book has the links of the tables that it found
+pub moved-starts : (N : ℕ) (found : Tables) → refusal (moving N) found ≡ Accepted →
+    Started atMovedHall N (after (moving N) found) × (firstLinks atMovedHall N (after (moving N) found) ≡ found .cost)
+unfolding filled
+moved-starts N found ok = (sequence-from atMovedHall N found ok, ap (λ t. t .cost) (move-leaves N found ok))
+
+-- and the tables of every hall are such tables: those of its costs by the old numbers, moved
+pub hall-starts : (N : ℕ) (cost : List ℕ) → Held N cost → Started atMovedHall N (filled scale N cost)
+hall-starts N cost h = let (ok, left) = old-moved N cost h in subst (Started atMovedHall N) left (moved-starts N (filled oldScale N cost) ok .0)
+
+-- every N from 1 to 64 has an empty hall to start from, and every list of calls is such a sequence
 pub sequence-starts : (N : ℕ) (found : Tables) → upTo mostStops N ≡ true → sized N found ≡ true →
-    Started N (after (record { n = N; ask = emptyHall }) found)
-unfolding answer refusal rule
-sequence-starts N found size lengths =
-    record { found = found; said = answer (record { n = N; ask = emptyHall }) found; done = record { left = refl; answered = refl }; taken = rw (size, lengths) }
+    Started atEmptyHall N (after (record { n = N; ask = emptyHall }) found)
+unfolding refusal rule
+sequence-starts N found size lengths = sequence-from atEmptyHall N found (rw (size, lengths))
 
 abbrev pub stepOf : Call → Tables → Step
 stepOf c t = record { call = c; left = after c (lent c t); answer = answer c (lent c t) }
@@ -137,21 +169,22 @@ sequence-runs (c ∷ calls) t =
     let (made, same) = sequence-runs calls (kept (stepOf c t) t) in
     ((record { left = refl; answered = refl }, made), ap (λ l. c ∷ l) same)
 
-module _ (N : ℕ) (start : Tables) (from : Started N start) where
-  -- sequences that end with the same links end with the same five tables
-  pub same-links : (start′ : Tables) → Started N start′ → (steps steps′ : List Step) → Sequence start steps → Sequence start′ steps′ →
-      run bookAfter (callsOf steps) (noLinks N) .links ≡ run bookAfter (callsOf steps′) (noLinks N) .links →
+module _ (from : Start) (N : ℕ) (start : Tables) (begun : Started from N start) where
+  -- sequences that end with the same links end with the same five tables, wherever they started
+  pub same-links : (from′ : Start) (start′ : Tables) → Started from′ N start′ → (steps steps′ : List Step) → Sequence start steps → Sequence start′ steps′ →
+      run bookAfter (callsOf steps) (firstBook from N start) .links ≡ run bookAfter (callsOf steps′) (firstBook from′ N start′) .links →
       run kept steps start ≡ run kept steps′ start′
   unfolding Demand3
-  same-links start′ from′ steps steps′ made made′ same =
-      demand3 N start steps from made .0 ∙ ap (filled scale N) same ∙ sym (demand3 N start′ steps′ from′ made′ .0)
+  same-links from′ start′ begun′ steps steps′ made made′ same =
+      demand3 from N start steps begun made .0 ∙ ap (filled scale N) same ∙ sym (demand3 from′ N start′ steps′ begun′ made′ .0)
 
-  -- sequences of the same calls answer the same, whatever their first tables held before
-  pub same-answers : (start′ : Tables) → Started N start′ → (steps steps′ : List Step) → Sequence start steps → Sequence start′ steps′ →
-      callsOf steps ≡ callsOf steps′ → map (λ s. s .answer) steps ≡ map (λ s. s .answer) steps′
+  -- sequences of the same calls from the same links answer the same, whatever their first tables held before
+  pub same-answers : (from′ : Start) (start′ : Tables) → Started from′ N start′ → (steps steps′ : List Step) → Sequence start steps → Sequence start′ steps′ →
+      firstLinks from N start ≡ firstLinks from′ N start′ → callsOf steps ≡ callsOf steps′ → map (λ s. s .answer) steps ≡ map (λ s. s .answer) steps′
   unfolding Demand3
-  same-answers start′ from′ steps steps′ made made′ same =
-      demand3 N start steps from made .1 ∙ ap (λ calls. bookAnswers calls (noLinks N)) same ∙ sym (demand3 N start′ steps′ from′ made′ .1)
+  same-answers from′ start′ begun′ steps steps′ made made′ first same =
+      demand3 from N start steps begun made .1 ∙ ap₂ (λ calls links. bookAnswers calls (record { stops = N; links = links })) same first ∙
+      sym (demand3 from′ N start′ steps′ begun′ made′ .1)
 
   -- an accepted edit of a sequence in the words of its routes: it changes exactly the rows of the sources that it touches, answers how
   -- many they are, and moves each score by what their shares move
@@ -165,7 +198,7 @@ module _ (N : ℕ) (start : Tables) (from : Started N start) where
       getD (t′ .score) x 0 + sumTo n (λ s. cond (touches s) (entry n (t .share) s x) 0) ≡ getD (t .score) x 0 + sumTo n (λ s. cond (touches s) (entry n (t′ .share) s x) 0))
   unfolding Demand3
   edit-exact before rest s e made asked ok =
-      let f = demand3 N start (before ++ s ∷ rest) from made .2 before rest s e refl asked ok in
+      let f = demand3 from N start (before ++ s ∷ rest) begun made .2 before rest s e refl asked ok in
       let t : Tables = run kept before start in
       let n : ℕ = s .call .n in
       let touches : ℕ → Bool = touched n (t .cost) (s .left .cost) (e .u) (e .v) in
@@ -184,7 +217,7 @@ module _ (N : ℕ) (start : Tables) (from : Started N start) where
   reversed-next before rest s r e made asked ok back =
       let back-of : Call = record { n = s .call .n; ask = edit (reversal (e .kind) (e .u) (e .v) (s .answer)) } in
       let t : Tables = run kept before start in
-      let facts = demand3 N start (before ++ s ∷ r ∷ rest) from made .2 before (r ∷ rest) s e refl asked ok .reverses in
+      let facts = demand3 from N start (before ++ s ∷ r ∷ rest) begun made .2 before (r ∷ rest) s e refl asked ok .reverses in
       let (part, d, (d′, more)) = front before s (r ∷ rest) start made in
       let same : kept s t ≡ s .left = kept-left s t d (ap (λ ask. lent (record { n = s .call .n; ask = ask }) t) asked) in
       let lent-so : lent (r .call) (kept s t) ≡ kept s t = ap (λ c. lent c (kept s t)) back in
@@ -195,11 +228,36 @@ module _ (N : ℕ) (start : Tables) (from : Started N start) where
         ap (λ a. a .rows) (done .answered) ∙ facts .touches .1,
       )
 
-  -- no call of a sequence answers 3
-  pub never-three : (made : List Step) (s : Step) (rest : List Step) → Sequence start (made ++ s ∷ rest) → s .answer .refusal ≢ BadTables
-  never-three made s rest all =
-      at-step N start from (λ t. s .answer .refusal ≢ BadTables) made rest s all
-      (λ b h d bad. never-bad (s .call) b (sym (ap (λ a. a .refusal) (answer-made s b h d) ∙ book-refusal (s .call) b) ∙ bad))
+  -- no call of a sequence but the moving one answers 3
+  pub never-three : (made : List Step) (s : Step) (rest : List Step) → Sequence start (made ++ s ∷ rest) → s .call .ask ≢ moveOver → s .answer .refusal ≢ BadTables
+  never-three made s rest all another =
+      at-step from N start begun (λ t. s .answer .refusal ≢ BadTables) made rest s all
+      (λ b N-stops h d bad. never-bad (s .call) b another (sym (ap (λ a. a .refusal) (answer-made s b h d) ∙ book-refusal (s .call) b) ∙ bad))
+
+  -- a moving call of a sequence leaves the five tables as they are; with N it says 3 exactly where they are not also those of the old scale
+  -- and limit, as with any share above 0
+  module _ (made : List Step) (s : Step) (rest : List Step) (all : Sequence start (made ++ s ∷ rest)) (asked : s .call .ask ≡ moveOver) where
+    pub moved-kept : kept s (run kept made start) ≡ run kept made start
+    moved-kept =
+        at-step from N start begun (λ t. kept s t ≡ t) made rest s all (λ b N-stops h d.
+        kept-made s b h d ∙ ap tablesOf (ap (λ ask. bookAfter (record { n = s .call .n; ask = ask }) b) asked ∙ move-book (s .call .n) b))
+
+    module _ (size : s .call .n ≡ N) where
+      said-book : (b : Book) → b .stops ≡ N → Held (b .stops) (b .links) → Done (s .call) (lent (s .call) (tablesOf b)) (s .left) (s .answer) →
+          s .answer .refusal ≡ bookRefusal (moving (b .stops)) b
+      said-book b N-stops h d =
+          let call : s .call ≡ moving (b .stops) = λ i. record { n = (size ∙ sym N-stops) i; ask = asked i } in
+          ap (λ a. a .refusal) (answer-made s b h d) ∙ book-refusal (s .call) b ∙ ap (λ c. bookRefusal c b) call
+
+      pub moved-told : s .answer .refusal ≡ need (right oldScale oldMostWays N (run kept made start)) BadTables Accepted
+      moved-told =
+          at-step from N start begun (λ t. s .answer .refusal ≡ need (right oldScale oldMostWays N t) BadTables Accepted) made rest s all (λ b N-stops h d.
+          said-book b N-stops h d ∙ told-book b h ∙ ap (λ m. need (right oldScale oldMostWays m (tablesOf b)) BadTables Accepted) N-stops)
+
+      pub moved-three : (x v : ℕ) → x < N → v < N → 0 < entry N (run kept made start .share) x v → s .answer .refusal ≡ BadTables
+      moved-three x v k l =
+          at-step from N start begun (λ t. 0 < entry N (t .share) x v → s .answer .refusal ≡ BadTables) made rest s all (λ b N-stops h d some.
+          said-book b N-stops h d ∙ move-three b h x v (rw N-stops k) (rw N-stops l) (subst (λ m. 0 < entry m (tablesOf b .share) x v) (sym N-stops) some))
 
   -- a work out on the cost table that a sequence leaves is accepted and changes nothing
   pub worked-out : (steps : List Step) → Sequence start steps →
@@ -209,7 +267,7 @@ module _ (N : ℕ) (start : Tables) (from : Started N start) where
   unfolding after filled rule
   worked-out steps made =
       let worked : Tables → Call = λ t. record { n = N; ask = workOut (t .cost) } in
-      of-books N start from (λ t. (refusal (worked t) t ≡ Accepted) × (after (worked t) t ≡ t)) steps made
+      of-books from N start begun (λ t. (refusal (worked t) t ≡ Accepted) × (after (worked t) t ≡ t)) steps made
       (λ links h.
       let taken = held-worked N links (filled scale N links) h (sized-filled scale N N links (h .square) ∙ eq-eqb N N refl) in
       (taken, rw taken))

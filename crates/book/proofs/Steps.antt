@@ -9,9 +9,9 @@ use lib.ListN.{length, replicate, length-set, length-replicate}
 use native.Mathlib.Omega.{arith}
 use borrow.Author.Tests.{eqb-true, eq-eqb, ne-eqb, leb-true}
 use Rattle.routes.proofs.Booleans.{both}
-use Rattle.book.specs.Hall.{Tables, mostStops, mostWays, mostEdits, scale, upTo, entry, filled, sized, validCosts, uncrowded, right, imageOf, isImage, costsOf}
-use Rattle.book.specs.Call.{Ask, emptyHall, audit, workOut, edit, editList, imageWrite, imageRead, Call, number, accepted, need, waysTest, costSet, withEdit, editRefusal, run, withEdits, judged, Rule, rule, Answer, refusal, after, answer, Done}
-use Rattle.book.specs.Book.{Book, bookRefusal, bookAfter, bookAnswer, Step, withCost, lent, kept, Sequence}
+use Rattle.book.specs.Hall.{Tables, mostStops, mostWays, mostEdits, scale, oldMostWays, oldScale, upTo, entry, filled, sized, validCosts, uncrowded, right, imageOf, isImage, costsOf}
+use Rattle.book.specs.Call.{Ask, emptyHall, audit, moveOver, workOut, edit, editList, imageWrite, imageRead, Call, number, accepted, need, waysTest, costSet, withEdit, editRefusal, run, withEdits, judged, Rule, rule, Answer, refusal, after, answer, Done}
+use Rattle.book.specs.Book.{Book, tablesOf, bookRefusal, bookAfter, bookAnswer, Step, withCost, lent, kept, Sequence}
 use Rattle.book.specs.declared.Edit.{Edit}
 use Rattle.book.specs.declared.Refusal.{Refusal}
 use Rattle.book.specs.declared.Refusal.the-variants.{Accepted, BadSize, BadLength, BadTables, BadCost, BadImage, ShortBuffer, TooManyWays, ListTooLong}
@@ -73,12 +73,19 @@ held-right n t size lengths sound =
     let (valid, few, same) = right-true scale mostWays n t sound in
     record { size = size; square = sized-cost n t lengths; valid = valid; few = few }
 
+-- of tables that are right by the old numbers, if no pair has more ways than the limit
+held-old : (n : ℕ) (t : Tables) → upTo mostStops n ≡ true → sized n t ≡ true → right oldScale oldMostWays n t ≡ true → accepted (waysTest n (t .cost)) ≡ true → Held n (t .cost)
+held-old n t size lengths old e =
+    let (valid, few, same) = right-true oldScale oldMostWays n t old in
+    record { size = size; square = sized-cost n t lengths; valid = valid; few = need-true (uncrowded mostWays n (t .cost)) TooManyWays Accepted refl e .0 }
+
 -- and of those that a call leaves which passes its tests
 rule-held : (n : ℕ) (ask : Ask) (t : Tables) → let r : Rule = rule n ask (t .cost) in
     upTo mostStops n ≡ true → sized n t ≡ true → r .fits ≡ true → r .sound t ≡ true → accepted (r .tests) ≡ true → Held n (r .leaves)
 unfolding rule
 rule-held n emptyHall t size lengths fits sound e = held-none n size
 rule-held n audit t size lengths fits sound e = held-right n t size lengths sound
+rule-held n moveOver t size lengths fits sound e = held-old n t size lengths sound e
 rule-held n (workOut c) t size lengths fits sound e = worked-held n c (t .cost) size fits e
 rule-held n (edit x) t size lengths fits sound e = held-edited n x (t .cost) (held-right n t size lengths sound) (permitted n x (t .cost) e)
 rule-held n (editList edits) t size lengths fits sound e =
@@ -99,10 +106,6 @@ module _ (c : Call) (t : Tables) (e : refusal c t ≡ Accepted) where
   unfolding after
   accepted-filled = rw e
 
--- the tables of a book
-abbrev pub tablesOf : Book → Tables
-tablesOf b = filled scale (b .stops) (b .links)
-
 -- a work out as its contract has it, on its own cost table beside four of the five, is a step from the five
 pub work-out-step : (n : ℕ) (cost : List ℕ) (t t′ : Tables) (a : Answer) →
     Done (record { n = n; ask = workOut cost }) (record { cost = cost; time = t .time; ways = t .ways; share = t .share; score = t .score }) t′ a →
@@ -116,6 +119,7 @@ by-lent : (n : ℕ) (P : Ask → Tables → Type 0) (t : Tables) → ((ask : Ask
 unfolding rule
 by-lent n P t own brought emptyHall = own emptyHall
 by-lent n P t own brought audit = own audit
+by-lent n P t own brought moveOver = own moveOver
 by-lent n P t own brought (workOut cost) = brought cost
 by-lent n P t own brought (edit e) = own (edit e)
 by-lent n P t own brought (editList edits) = own (editList edits)
@@ -127,37 +131,39 @@ rule-lent : (n : ℕ) (ask : Ask) (t : Tables) → rule n ask (lent (record { n 
 unfolding rule
 rule-lent n ask t = by-lent n (λ ask t′. rule n ask (t′ .cost) ≡ rule n ask (t .cost)) t (λ ask. refl) (λ cost. refl) ask
 
--- tables that are right pass whatever a call audits
-right-passes : (n : ℕ) (ask : Ask) (cost : List ℕ) (t : Tables) → right scale mostWays n t ≡ true → rule n ask cost .sound t ≡ true
+-- tables that are right pass whatever a call audits, but for the moving call, of which the book asks the same
+sound-in-book : (n : ℕ) (ask : Ask) (cost : List ℕ) (t : Tables) → right scale mostWays n t ≡ true → rule n ask cost .sound t ≡ rule n ask cost .soundInBook t
 unfolding rule
-right-passes n emptyHall cost t e = refl
-right-passes n audit cost t e = e
-right-passes n (workOut c) cost t e = refl
-right-passes n (edit x) cost t e = e
-right-passes n (editList edits) cost t e = e
-right-passes n (imageWrite buffer) cost t e = e
-right-passes n (imageRead image) cost t e = refl
+sound-in-book n emptyHall cost t e = refl
+sound-in-book n audit cost t e = e
+sound-in-book n moveOver cost t e = refl
+sound-in-book n (workOut c) cost t e = refl
+sound-in-book n (edit x) cost t e = e
+sound-in-book n (editList edits) cost t e = e
+sound-in-book n (imageWrite buffer) cost t e = e
+sound-in-book n (imageRead image) cost t e = refl
 
 module _ (c : Call) (b : Book) where
   abbrev ruled : Rule
   ruled = rule (c .n) (c .ask) (b .links)
 
   -- a call that the book accepts has its N, and passes its own tests; what it brings fits
-  pub accepted-book : accepted (bookRefusal c b) ≡ true → (c .n ≡ b .stops) × (ruled .fits ≡ true) × (accepted (ruled .tests) ≡ true)
+  pub accepted-book : accepted (bookRefusal c b) ≡ true →
+      (c .n ≡ b .stops) × (ruled .fits ≡ true) × (ruled .soundInBook (tablesOf b) ≡ true) × (accepted (ruled .tests) ≡ true)
   unfolding bookRefusal
   accepted-book e =
-      let (size, lengths, sound, tests) = chain-true (c .n) (ruled .fits && eqb (c .n) (b .stops)) true (ruled .tests) e in
+      let (size, lengths, sound, tests) = chain-true (c .n) (ruled .fits && eqb (c .n) (b .stops)) (ruled .soundInBook (tablesOf b)) (ruled .tests) e in
       let (fits, same) = and-eq-true-iff (ruled .fits) (eqb (c .n) (b .stops)) .0 lengths in
-      (eqb-true (c .n) (b .stops) same, fits, tests)
+      (eqb-true (c .n) (b .stops) same, fits, sound, tests)
 
   module _ (h : Held (b .stops) (b .links)) where
-    -- the book's tables have the lengths for N alone, and pass whatever a call audits
+    -- the book's tables have the lengths for N alone, and pass what a call audits exactly where the book says so
     lengths-book : sized (c .n) (tablesOf b) ≡ eqb (c .n) (b .stops)
     lengths-book = sized-filled scale (c .n) (b .stops) (b .links) (h .square)
 
-    sound-book : c .n ≡ b .stops → ruled .sound (tablesOf b) ≡ true
+    sound-book : c .n ≡ b .stops → ruled .sound (tablesOf b) ≡ ruled .soundInBook (tablesOf b)
     sound-book same =
-        right-passes (c .n) (c .ask) (b .links) (tablesOf b) (rw same (right-filled scale mostWays (b .stops) (b .links) (h .valid) (h .few)))
+        sound-in-book (c .n) (c .ask) (b .links) (tablesOf b) (rw same (right-filled scale mostWays (b .stops) (b .links) (h .valid) (h .few)))
 
     -- so they refuse what the book refuses
     pub refusal-book : refusal c (tablesOf b) ≡ bookRefusal c b
@@ -165,7 +171,7 @@ module _ (c : Call) (b : Book) where
     refusal-book = rw lengths-book (ap (need (upTo mostStops (c .n)) BadSize) (go (ruled .fits) (eqb (c .n) (b .stops)) refl))
       where
         go : (f x : Bool) → eqb (c .n) (b .stops) ≡ x →
-            need (f && x) BadLength (need (ruled .sound (tablesOf b)) BadTables (ruled .tests)) ≡ need (f && x) BadLength (ruled .tests)
+            need (f && x) BadLength (need (ruled .sound (tablesOf b)) BadTables (ruled .tests)) ≡ need (f && x) BadLength (need (ruled .soundInBook (tablesOf b)) BadTables (ruled .tests))
         go true true e = rw (sound-book (eqb-true (c .n) (b .stops) e))
         go true false e = refl
         go false x e = refl
@@ -177,9 +183,9 @@ module _ (c : Call) (b : Book) where
       where
         go : (x : Bool) → accepted (bookRefusal c b) ≡ x → Held (b .stops) (cond x (ruled .leaves) (b .links))
         go true e =
-            let (same, fits, tests) = accepted-book e in
+            let (same, fits, sound, tests) = accepted-book e in
             let lengths : sized (c .n) (tablesOf b) ≡ true = lengths-book ∙ eq-eqb (c .n) (b .stops) same in
-            subst (λ n. Held n (ruled .leaves)) same (rule-held (c .n) (c .ask) (tablesOf b) (rw same (h .size)) lengths fits (sound-book same) tests)
+            subst (λ n. Held n (ruled .leaves)) same (rule-held (c .n) (c .ask) (tablesOf b) (rw same (h .size)) lengths fits (sound-book same ∙ sound) tests)
         go false e = h
 
 -- a call on what it is lent refuses what the book refuses
@@ -244,6 +250,7 @@ rule-other : (n : ℕ) (ask : Ask) (cost : List ℕ) → Other (rule n ask cost 
 unfolding rule
 rule-other n emptyHall cost = record { not-three = refl }
 rule-other n audit cost = record { not-three = refl }
+rule-other n moveOver cost = ways-other n cost
 rule-other n (workOut c) cost = need-other (validCosts n c) BadCost refl (ways-other n c)
 rule-other n (edit e) cost = told-other (editRefusal n e cost) (edit-told n e cost)
 rule-other n (editList edits) cost = need-other (leb (length edits) mostEdits) ListTooLong refl (told-other (judged n 1 edits cost .refusal) (judged-told n 1 edits cost))
@@ -251,11 +258,24 @@ rule-other n (imageWrite buffer) cost =
     need-other (leb (length (imageOf n cost)) (length buffer)) ShortBuffer refl (record { not-three = refl })
 rule-other n (imageRead image) cost = need-other (isImage n image) BadImage refl (ways-other n (costsOf n image))
 
--- a book never says 3
-pub never-bad : (c : Call) (b : Book) → bookRefusal c b ≢ BadTables
+-- of the tables that a book gives only the moving call asks anything
+asks-nothing : (n : ℕ) (ask : Ask) (cost : List ℕ) (t : Tables) → ask ≢ moveOver → rule n ask cost .soundInBook t ≡ true
+unfolding rule
+asks-nothing n emptyHall cost t other = refl
+asks-nothing n audit cost t other = refl
+asks-nothing n moveOver cost t other = absurd (other refl)
+asks-nothing n (workOut c) cost t other = refl
+asks-nothing n (edit e) cost t other = refl
+asks-nothing n (editList edits) cost t other = refl
+asks-nothing n (imageWrite buffer) cost t other = refl
+asks-nothing n (imageRead image) cost t other = refl
+
+-- so to any other call a book never says 3
+pub never-bad : (c : Call) (b : Book) → c .ask ≢ moveOver → bookRefusal c b ≢ BadTables
 unfolding bookRefusal
-never-bad c b e =
+never-bad c b another e =
     let r : Rule = rule (c .n) (c .ask) (b .links) in
-    let rest = need-other (r .fits && eqb (c .n) (b .stops)) BadLength refl (rule-other (c .n) (c .ask) (b .links)) in
+    let own : Other (need (r .soundInBook (tablesOf b)) BadTables (r .tests)) = rw (asks-nothing (c .n) (c .ask) (b .links) (tablesOf b) another) (rule-other (c .n) (c .ask) (b .links)) in
+    let rest = need-other (r .fits && eqb (c .n) (b .stops)) BadLength refl own in
     let other : Other (bookRefusal c b) = need-other (upTo mostStops (c .n)) BadSize refl rest in
     both (ap (λ r. eqb (number r) 3) e) (other .not-three)

@@ -1,13 +1,13 @@
 -- The book of document 01, sequences of calls, and demand 3 as a type. Assumes nothing.
 use Prim.Native.Nat.{ℕ, _+_, _*_, _<_}
 use mathlib.Core.Path.{_≡_}
-use mathlib.Core.Bool.{Bool, true, false, cond, not, _&&_}
+use mathlib.Core.Bool.{Bool, false, cond, not, _&&_}
 use mathlib.Core.List.{List, [], _∷_, _++_, map}
 use lib.Dec.{eqb, ltb}
 use lib.ListN.{getD, replicate}
 use Rattle.routes.specs.Route.{sumTo, allTo, has}
 use Rattle.book.specs.Hall.{Tables, scale, entry, filled, touched}
-use Rattle.book.specs.Call.{emptyHall, edit, editList, Call, Rule, rule, Answer, accepted, run, touchedBy, chain, reply, refusal, after, answer, Done, reversal}
+use Rattle.book.specs.Call.{Ask, emptyHall, moveOver, edit, editList, Call, Rule, rule, Answer, accepted, run, touchedBy, chain, reply, refusal, after, answer, Done, reversal}
 use Rattle.book.specs.declared.Edit.{Edit}
 use Rattle.book.specs.declared.Refusal.{Refusal}
 use Rattle.book.specs.declared.Refusal.the-variants.{Accepted}
@@ -17,11 +17,16 @@ pub record Book : Type 0 where
   pub stops : ℕ
   pub links : List ℕ
 
--- a call is refused by the same tests: 2 if its n is not N or what it brings does not fit, 3 never
+-- the tables that the book gives: those of its links
+abbrev pub tablesOf : Book → Tables
+tablesOf b = filled scale (b .stops) (b .links)
+
+-- a call is refused by the same tests: 2 if its n is not N or what it brings does not fit, 3 by the moving call alone, where the
+-- tables that the book gives are not also those of the old scale and limit
 unfoldable pub bookRefusal : Call → Book → Refusal
 bookRefusal c b =
     let r : Rule = rule (c .n) (c .ask) (b .links) in
-    chain (c .n) (r .fits && eqb (c .n) (b .stops)) true (r .tests)
+    chain (c .n) (r .fits && eqb (c .n) (b .stops)) (r .soundInBook (tablesOf b)) (r .tests)
 
 unfoldable pub bookAfter : Call → Book → Book
 bookAfter c b = record { stops = b .stops; links = cond (accepted (bookRefusal c b)) (rule (c .n) (c .ask) (b .links) .leaves) (b .links) }
@@ -29,7 +34,7 @@ bookAfter c b = record { stops = b .stops; links = cond (accepted (bookRefusal c
 unfoldable pub bookAnswer : Call → Book → Answer
 bookAnswer c b = reply (bookRefusal c b) (rule (c .n) (c .ask) (b .links))
 
--- the book at first: no links
+-- a book without links
 abbrev pub noLinks : ℕ → Book
 noLinks N = record { stops = N; links = replicate (N * N) 0 }
 
@@ -94,18 +99,35 @@ pub record EditFacts (n : ℕ) (e : Edit) (t t′ : Tables) (a : Answer) : Type 
   pub tells : a .before ≡ entry n (t .cost) (e .u) (e .v)
   pub reverses : Reverses (record { n = n; ask = edit (reversal (e .kind) (e .u) (e .v) a) }) t t′ a
 
--- five tables that an accepted empty hall with N filled, whatever it found in them
-pub record Started (N : ℕ) (start : Tables) : Type 0 where
+-- where a sequence starts: at an empty hall, or at a hall that was moved over
+pub data Start : Type 0 where
+  atEmptyHall atMovedHall : Start
+
+-- the call that leaves the five tables to start from
+abbrev pub startAsk : Start → Ask
+startAsk atEmptyHall = emptyHall
+startAsk atMovedHall = moveOver
+
+-- the book at first: no links, or those of the moved hall
+abbrev pub firstLinks : Start → ℕ → Tables → List ℕ
+firstLinks atEmptyHall N start = noLinks N .links
+firstLinks atMovedHall N start = start .cost
+
+abbrev pub firstBook : Start → ℕ → Tables → Book
+firstBook from N start = record { stops = N; links = firstLinks from N start }
+
+-- five tables that such a call with N left, accepted, whatever it found in them
+pub record Started (from : Start) (N : ℕ) (start : Tables) : Type 0 where
   pub found : Tables
   pub said : Answer
-  pub done : Done (record { n = N; ask = emptyHall }) found start said
+  pub done : Done (record { n = N; ask = startAsk from }) found start said
   pub taken : said .refusal ≡ Accepted
 
--- demand 3: the tables after the sequence, the answers in it, its accepted edits, and its accepted lists of edits
+-- demand 3, from an empty or a moved hall: the tables after the sequence, the answers in it, its accepted edits, and its accepted lists of edits
 unfoldable pub Demand3 : Type 0
-Demand3 = (N : ℕ) (start : Tables) (steps : List Step) → Started N start → Sequence start steps →
-    (run kept steps start ≡ filled scale N (run bookAfter (callsOf steps) (noLinks N) .links)) ×
-    (map (λ s. s .answer) steps ≡ bookAnswers (callsOf steps) (noLinks N)) ×
+Demand3 = (from : Start) (N : ℕ) (start : Tables) (steps : List Step) → Started from N start → Sequence start steps →
+    (run kept steps start ≡ filled scale N (run bookAfter (callsOf steps) (firstBook from N start) .links)) ×
+    (map (λ s. s .answer) steps ≡ bookAnswers (callsOf steps) (firstBook from N start)) ×
     ((before rest : List Step) (s : Step) (e : Edit) → steps ≡ before ++ s ∷ rest → s .call .ask ≡ edit e →
     s .answer .refusal ≡ Accepted → EditFacts (s .call .n) e (run kept before start) (s .left) (s .answer)) ×
     ((before rest : List Step) (s : Step) (edits : List Edit) → steps ≡ before ++ s ∷ rest → s .call .ask ≡ editList edits →

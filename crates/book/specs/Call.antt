@@ -7,7 +7,7 @@ use mathlib.Core.List.{List, [], _∷_, _++_}
 use lib.Dec.{eqb, ltb, leb}
 use lib.ListN.{length, drop, set, replicate}
 use Rattle.routes.specs.Route.{sumTo, setOf}
-use Rattle.book.specs.Hall.{Tables, mostStops, largestCost, mostWays, mostEdits, scale, upTo, entry, filled, sized, validPair, validCosts, uncrowded, right, touched, imageOf, isImage, costsOf}
+use Rattle.book.specs.Hall.{Tables, mostStops, largestCost, mostWays, mostEdits, scale, oldMostWays, oldScale, upTo, entry, filled, sized, validPair, validCosts, uncrowded, right, touched, imageOf, isImage, costsOf}
 use Rattle.book.specs.declared.Edit.{Edit}
 use Rattle.book.specs.declared.Kind.{Kind}
 use Rattle.book.specs.declared.Kind.the-variants.{Insert, Cheapen, Raise, Delete}
@@ -35,7 +35,7 @@ accepted r = eqb (number r) 0
 
 -- what is asked, with what the call brings
 pub data Ask : Type 0 where
-  emptyHall audit : Ask
+  emptyHall audit moveOver : Ask
   workOut : (cost : List ℕ) → Ask
   edit : (e : Edit) → Ask
   editList : (edits : List Edit) → Ask
@@ -149,21 +149,25 @@ pub record Rule : Type 0 where
   pub lentBuffer : List ℕ
   pub fits : Bool  -- 2, of what it brings
   pub sound : Tables → Bool  -- 3; true where it does not look
+  pub soundInBook : Tables → Bool  -- 3 in a sequence, of the tables that the book gives; true but for the moving call
   pub tests : Refusal  -- 4 to 12
   pub place : Refusal → ℕ  -- that the refusal of a list tells; 0 in every other call
-  pub leaves : List ℕ  -- the costs of the hall whose tables it leaves: where they are the present ones and sound, those that it was lent
+  pub leaves : List ℕ  -- the costs of the hall whose tables it leaves; of audit and image write these are the tables that it was lent
   pub says : Answer
 
 -- a call that brings nothing and is lent no buffer
 abbrev pub onPresent : List ℕ → (Tables → Bool) → Refusal → List ℕ → Answer → Rule
-onPresent cost sound tests leaves says = record { lentCost = cost; lentBuffer = []; fits = true; sound = sound; tests = tests; place = λ r. 0; leaves = leaves; says = says }
+onPresent cost sound tests leaves says = record { lentCost = cost; lentBuffer = []; fits = true; sound = sound; soundInBook = λ t. true; tests = tests; place = λ r. 0; leaves = leaves; says = says }
 
 -- by n, what is asked and the present costs
 unfoldable pub rule : ℕ → Ask → List ℕ → Rule
 rule n emptyHall cost = onPresent cost (λ t. true) Accepted (replicate (n * n) 0) (plain Accepted [])
 rule n audit cost = onPresent cost (right scale mostWays n) Accepted cost (plain Accepted [])
+rule n moveOver cost =
+    let old : Tables → Bool = right oldScale oldMostWays n in
+    record { lentCost = cost; lentBuffer = []; fits = true; sound = old; soundInBook = old; tests = waysTest n cost; place = λ r. 0; leaves = cost; says = plain Accepted [] }
 rule n (workOut c) cost =
-    record { lentCost = c; lentBuffer = []; fits = eqb (length c) (n * n); sound = λ t. true; tests = need (validCosts n c) BadCost (waysTest n c); place = λ r. 0; leaves = c; says = plain Accepted [] }
+    record { lentCost = c; lentBuffer = []; fits = eqb (length c) (n * n); sound = λ t. true; soundInBook = λ t. true; tests = need (validCosts n c) BadCost (waysTest n c); place = λ r. 0; leaves = c; says = plain Accepted [] }
 rule n (edit e) cost =
     let cost′ : List ℕ = withEdit n e cost in
     let says : Answer = names n (touched n cost cost′ (e .u) (e .v)) (entry n cost (e .u) (e .v)) in
@@ -173,10 +177,10 @@ rule n (editList edits) cost =
     let tests : Refusal = need (leb (length edits) mostEdits) ListTooLong (first .refusal) in
     let place : Refusal → ℕ = λ r. cond (ofAnEdit r) (first .place) 0 in
     let says : Answer = names n (touchedBy n edits cost) 0 in
-    record { lentCost = cost; lentBuffer = []; fits = true; sound = right scale mostWays n; tests = tests; place = place; leaves = withEdits n edits cost; says = says }
+    record { lentCost = cost; lentBuffer = []; fits = true; sound = right scale mostWays n; soundInBook = λ t. true; tests = tests; place = place; leaves = withEdits n edits cost; says = says }
 rule n (imageWrite buffer) cost =
     let image : List ℕ = imageOf n cost in
-    record { lentCost = cost; lentBuffer = buffer; fits = true; sound = right scale mostWays n; tests = need (leb (length image) (length buffer)) ShortBuffer Accepted; place = λ r. 0; leaves = cost; says = writes image buffer }
+    record { lentCost = cost; lentBuffer = buffer; fits = true; sound = right scale mostWays n; soundInBook = λ t. true; tests = need (leb (length image) (length buffer)) ShortBuffer Accepted; place = λ r. 0; leaves = cost; says = writes image buffer }
 rule n (imageRead image) cost =
     let cost′ : List ℕ = costsOf n image in
     onPresent cost (λ t. true) (need (isImage n image) BadImage (waysTest n cost′)) cost′ (plain Accepted [])

@@ -38,6 +38,10 @@ left cost time ways share score = these (cost .exit) (time .exit) (ways .exit) (
 abbrev pub leftBeside : (cost time ways share score : Param) → Tables
 leftBeside cost time ways share score = these (cost .entry) (time .exit) (ways .exit) (share .exit) (score .exit)
 
+-- the same where costs, times and ways are lent to be read
+abbrev pub leftShares : (cost time ways share score : Param) → Tables
+leftShares cost time ways share score = these (cost .entry) (time .entry) (ways .entry) (share .exit) (score .exit)
+
 -- an answer as the code gives it: a refusal alone, an edit's, a list's, and an image write's with its buffer
 abbrev pub ofRefusal : Refusal → Answer
 ofRefusal r = plain r []

@@ -2,7 +2,7 @@
 -- and its image (serialised form). Numbers are unbounded here: an image is a list of bytes where it comes from code. Assumes nothing.
 use Prim.Native.Nat.{ℕ, zero, suc, _+_, _*_, _-_, _/_, _%_}
 use mathlib.Core.Bool.{Bool, cond, not, _&&_, _||_}
-use mathlib.Core.List.{List, [], _∷_, _++_}
+use mathlib.Core.List.{List, [], _∷_, _++_, map}
 use lib.Dec.{eqb, ltb, leb}
 use lib.ListN.{length, getD}
 use Rattle.routes.specs.Route.{Costs, sumTo, joinTo, listTo, allTo, same, link, leastTime, ways, share, score, used}
@@ -15,13 +15,28 @@ abbrev pub largestCost : ℕ
 largestCost = 65535
 
 abbrev pub mostWays : ℕ
-mostWays = 22
+mostWays = 12
 
 abbrev pub mostEdits : ℕ
 mostEdits = 32
 
 abbrev pub scale : ℕ
-scale = 232792560
+scale = 27720
+
+-- the old limit of ways and the old scale, of halls made before document 02, §5: for the moving call alone
+abbrev pub oldMostWays : ℕ
+oldMostWays = 22
+
+abbrev pub oldScale : ℕ
+oldScale = 232792560
+
+-- what the moving call divides every share and score by: 232,792,560 = 27,720 × 8,398
+abbrev pub oldPerNew : ℕ
+oldPerNew = 8398
+
+-- a list with every entry so divided
+abbrev pub divided : List ℕ → List ℕ
+divided l = map (λ x. x / oldPerNew) l
 
 -- x is from 1 to m
 abbrev pub upTo : ℕ → ℕ → Bool

@@ -1,7 +1,7 @@
 // The limits of a hall, in one place.
 ghost use mathlib.Core.Path.{_≡_};
 ghost use Rattle.routes.specs.Route.{mark};
-ghost use Rattle.book.specs.Hall.{mostStops, largestCost, mostWays, mostEdits, scale, upTo};
+ghost use Rattle.book.specs.Hall.{mostStops, largestCost, mostWays, mostEdits, scale, oldMostWays, oldScale, oldPerNew, upTo};
 
 // The hall as the holder of its limits; its contents lie in lent tables.
 pub struct Hall {}
@@ -14,13 +14,20 @@ impl Hall {
     // The largest cost of a link, and the most ways of a pair.
     pub const LARGEST_COST: u32 = 65535;
 
-    pub const WAYS: u32 = 22;
+    pub const WAYS: u32 = 12;
     // The most edits of a list.
     pub const EDITS: usize = 32;
     // The time where there is no route.
     pub const MARK: u32 = 4294967295;
-    // What a whole share counts: the least common multiple of 1 to 22.
-    pub const SCALE: u64 = 232792560;
+    // What a whole share counts: the least common multiple of 1 to 12.
+    pub const SCALE: u64 = 27720;
+    // The most ways and the scale of halls that were made before these limits, and the quotient of the two scales: for the
+    // moving call alone.
+    pub const OLD_WAYS: u32 = 22;
+
+    pub const OLD_SCALE: u64 = 232792560;
+
+    pub const OLD_PER_NEW: u64 = 8398;
 
     // Whether a hall may have n stops.
     pub fn takes(n: u64) -> bool
@@ -41,4 +48,7 @@ pub fn limits_agree()
     ensures edits { λ r. do ⌜ (← ⟦Hall::EDITS⟧ .entry) ≡ mostEdits ⌝ }
     ensures mark { λ r. do ⌜ (← ⟦Hall::MARK⟧ .entry) ≡ mark ⌝ }
     ensures scale { λ r. do ⌜ (← ⟦Hall::SCALE⟧ .entry) ≡ scale ⌝ }
+    ensures old_ways { λ r. do ⌜ (← ⟦Hall::OLD_WAYS⟧ .entry) ≡ oldMostWays ⌝ }
+    ensures old_scale { λ r. do ⌜ (← ⟦Hall::OLD_SCALE⟧ .entry) ≡ oldScale ⌝ }
+    ensures old_per_new { λ r. do ⌜ (← ⟦Hall::OLD_PER_NEW⟧ .entry) ≡ oldPerNew ⌝ }
 {}

@@ -27,10 +27,12 @@ pub const IMAGE_WRITE: u64 = 8;
 
 pub const IMAGE_READ: u64 = 9;
 
-pub const IMAGE_CHECK: u64 = 10;
+pub const MOVE_OVER: u64 = 10;
+
+pub const IMAGE_CHECK: u64 = 11;
 
 // How many there are.
-pub const CALLS: usize = 11;
+pub const CALLS: usize = 12;
 
 // Only an edit reads u, v and the cost, and a delete not the cost.
 pub struct Call {

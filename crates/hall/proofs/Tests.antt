@@ -1,14 +1,15 @@
--- What the hall's own tests say: of the door, and of an audit behind it. Assumes nothing.
+-- What the hall's own tests say: of the door, of test 3 behind it, and of the audit that is made of both. Assumes nothing.
 use Prim.Native.Nat.{ℕ}
-use mathlib.Core.Path.{_≡_, refl, sym, _∙_}
-use mathlib.Core.Bool.{true, false}
+use mathlib.Core.Path.{_≡_, refl, sym, _∙_, subst}
+use mathlib.Core.Bool.{Bool, true, false}
 use Rattle.book.specs.Hall.{Tables, mostStops, mostWays, scale, upTo, sized, right}
-use Rattle.book.specs.Call.{audit, rule, Done}
+use Rattle.book.specs.Call.{Call, audit, accepted, chain, rule, Done}
 use Rattle.book.specs.Contract.{ofRefusal, doorTests, Inside}
+use Rattle.book.specs.declared.Refusal.{Refusal}
 use Rattle.book.specs.declared.Refusal.the-variants.{Accepted, BadSize, BadLength, BadTables}
 use Rattle.book.proofs.Filled.{right-true}
-use Rattle.book.proofs.Refused.{refused-done}
-use Rattle.book.proofs.Doors.{behind-door, accepted-done}
+use Rattle.book.proofs.Passed.{accepted-only}
+use Rattle.book.proofs.Doors.{tests-passed, tests-refused, behind-door, accepted-done}
 
 module _ (n : ℕ) (t : Tables) where
   pub door-size : upTo mostStops n ≡ false → BadSize ≡ doorTests n t
@@ -20,13 +21,25 @@ module _ (n : ℕ) (t : Tables) where
   pub door-open : upTo mostStops n ≡ true → sized n t ≡ true → Accepted ≡ doorTests n t
   door-open e f = rw (e, f)
 
-  module _ (i : Inside n t) where
-    pub audit-bad : right scale mostWays n t ≡ false → Done (record { n = n; ask = audit }) t t (ofRefusal BadTables)
-    unfolding rule
-    audit-bad e = refused-done (record { n = n; ask = audit }) t BadTables (behind-door (record { n = n; ask = audit }) t (λ s. refl) i ∙ rw e) refl
+  -- test 3 behind the door
+  module _ (sound : Bool) where
+    pub three-bad : Inside n t → sound ≡ false → BadTables ≡ chain n (sized n t) sound Accepted
+    three-bad i e = rw (i .size, i .lengths, e)
 
-    pub audit-good : right scale mostWays n t ≡ true → Done (record { n = n; ask = audit }) t t (ofRefusal Accepted)
-    unfolding rule
-    audit-good e =
-        accepted-done (record { n = n; ask = audit }) t t (ofRefusal Accepted) (behind-door (record { n = n; ask = audit }) t (λ s. refl) i ∙ rw e)
-        (sym (right-true scale mostWays n t e .2)) refl
+    pub three-good : Inside n t → sound ≡ true → Accepted ≡ chain n (sized n t) sound Accepted
+    three-good i e = rw (i .size, i .lengths, e)
+
+  -- the audit answers what these tests say, and leaves the tables
+  pub audit-done : {r : Refusal} → r ≡ chain n (sized n t) (right scale mostWays n t) Accepted → Done (record { n = n; ask = audit }) t t (ofRefusal r)
+  unfolding rule
+  audit-done {r} e = go (accepted r) refl
+    where
+      c : Call
+      c = record { n = n; ask = audit }
+
+      go : (b : Bool) → accepted r ≡ b → Done c t t (ofRefusal r)
+      go false shut = tests-refused c t (λ s. refl) r e shut
+      go true ok =
+          let (inside, sound) = tests-passed n t (right scale mostWays n t) e ok in
+          let taken = accepted-done c t t (ofRefusal Accepted) (behind-door c t (λ s. refl) inside ∙ rw sound) (sym (right-true scale mostWays n t sound .2)) refl in
+          subst (λ x. Done c t t (ofRefusal x)) (sym (accepted-only r ok)) taken

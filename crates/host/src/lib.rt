@@ -12,9 +12,10 @@ use hall::work_out::work_out;
 use image_form::image_check::image_check;
 use images::image_read::image_read;
 use images::image_write::image_write;
+use moves::move_over;
 ghost use mathlib.Core.Path.{_≡_};
-ghost use Rattle.book.specs.Call.{emptyHall, workOut, audit, edit, imageWrite, imageRead, number, imageCheck};
-ghost use Rattle.book.specs.Contract.{found, left, leftBeside};
+ghost use Rattle.book.specs.Call.{emptyHall, workOut, audit, moveOver, edit, imageWrite, imageRead, number, imageCheck};
+ghost use Rattle.book.specs.Contract.{found, left, leftBeside, leftShares};
 ghost use Rattle.book.specs.declared.Kind.the-variants.{Insert, Cheapen, Raise, Delete};
 ghost use Rattle.host.specs.Promise.{Handed, HandedList, ofNumber, ofEdited, ofWritten};
 
@@ -86,6 +87,21 @@ pub extern "C" fn hall_audit(
     ensures { λ r. ⌜ Handed (record { n = n; ask = audit }) (found cost time ways share score) (found cost time ways share score) (ofNumber r) ⌝ }
 {
     number_of(audit(n, cost, time, ways, share, score))
+}
+
+// Tables of the old scale and limit, moved over to this one's.
+#[no_mangle]
+pub extern "C" fn hall_move_over(
+    n: u64,
+    cost: &[u32],
+    time: &[u32],
+    ways: &[u32],
+    share: &mut [u64],
+    score: &mut [u64],
+) -> u32
+    ensures { λ r. ⌜ Handed (record { n = n; ask = moveOver }) (found cost time ways share score) (leftShares cost time ways share score) (ofNumber r) ⌝ }
+{
+    number_of(move_over(n, cost, time, ways, share, score))
 }
 
 // An edit of any kind.

@@ -1,4 +1,6 @@
 // The longest line: 64 stops, each with a link of the largest cost to the next.
+use super::listed;
+use super::moved;
 use super::report;
 use super::report::Inserts;
 use super::report::inserted;
@@ -68,6 +70,12 @@ fn slowed(t: Tables) {
     edited(b"raise 31 32 to 65535: ", RAISE, 65535, faster, t);
 }
 
+// Its old tables; moved over they are to be t.
+fn moved_over(t: Tables) {
+    let left = moved::over(b"old tables: move over ", 64, listed::old(64, links()), t);
+    some_scores(left);
+}
+
 fn records(image: &[u8]) {
     text::bytes(b"first record", image, 0, 4);
     text::bytes(b"last record", image, 248, 252);
@@ -116,6 +124,7 @@ pub fn longest() {
     say(b"a one-way line, 64 stops\n");
     let t = made();
     slowed(t);
+    moved_over(t);
     stored(t, long, exact, short);
     checked(exact, long);
     loaded(exact, t);

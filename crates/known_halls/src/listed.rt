@@ -19,6 +19,11 @@ use calls::tables::link;
 use calls::tables::place;
 use make_call::Done;
 
+// What a whole share counts, and what it counted before.
+const SCALE: u32 = 27720;
+
+const OLD_SCALE: u32 = 232792560;
+
 // Takes the first entries over from a table of 64 bits.
 fn narrowed(from: &[u64], count: usize, table: &mut [u32; CELLS]) {
     for i in 0..count {
@@ -27,7 +32,7 @@ fn narrowed(from: &[u64], count: usize, table: &mut [u32; CELLS]) {
 }
 
 // The tables t, but for the lister's times, ways, shares and scores of their costs.
-pub fn listed(n: u64, t: Tables) -> Tables {
+fn by_scale(n: u64, scale: u32, t: Tables) -> Tables {
     let cost = t.cost;
     let mut times = [0u64; CELLS];
     let mut counts = [0u64; CELLS];
@@ -35,7 +40,15 @@ pub fn listed(n: u64, t: Tables) -> Tables {
     let mut ways = t.ways;
     let mut share = t.share;
     let mut score = t.score;
-    lister::tables(&cost, n, &mut times, &mut counts, &mut share, &mut score);
+    lister::tables(
+        &cost,
+        n,
+        scale,
+        &mut times,
+        &mut counts,
+        &mut share,
+        &mut score,
+    );
     narrowed(&times, cells(n), &mut time);
     narrowed(&counts, cells(n), &mut ways);
     Tables {
@@ -45,6 +58,15 @@ pub fn listed(n: u64, t: Tables) -> Tables {
         share,
         score,
     }
+}
+
+pub fn listed(n: u64, t: Tables) -> Tables {
+    by_scale(n, SCALE, t)
+}
+
+// By the old scale.
+pub fn old(n: u64, t: Tables) -> Tables {
+    by_scale(n, OLD_SCALE, t)
 }
 
 // The entries of the tables left that are not those of the costs `wanted`.

@@ -93,18 +93,18 @@ pub fn most_edits() {
 
 // The link of 9 closes and opens again.
 fn crowded(t: Tables) -> Tables {
-    let closed = then(then(no_edits(), INSERT, 24, 0, 7), DELETE, 0, 24, 0);
-    let list = then(closed, INSERT, 0, 24, 9);
-    made(b"insert 24 0, delete 0 24, insert 0 24: ", 25, list, t, t)
+    let closed = then(then(no_edits(), INSERT, 14, 0, 7), DELETE, 0, 14, 0);
+    let list = then(closed, INSERT, 0, 14, 9);
+    made(b"insert 14 0, delete 0 14, insert 0 14: ", 15, list, t, t)
 }
 
 // So does a link of the last way, before it and behind it.
 fn uncrowded(t: Tables) {
-    let closed = then(then(no_edits(), DELETE, 23, 24, 0), DELETE, 0, 24, 0);
-    let list = then(then(closed, INSERT, 0, 24, 9), INSERT, 23, 24, 5);
+    let closed = then(then(no_edits(), DELETE, 13, 14, 0), DELETE, 0, 14, 0);
+    let list = then(then(closed, INSERT, 0, 14, 9), INSERT, 13, 14, 5);
     made(
-        b"delete 23 24, delete 0 24, insert 0 24, insert 23 24: ",
-        25,
+        b"delete 13 14, delete 0 14, insert 0 14, insert 13 14: ",
+        15,
         list,
         t,
         t,
@@ -112,6 +112,6 @@ fn uncrowded(t: Tables) {
 }
 
 pub fn in_passing() {
-    say(b"23 ways of time 10 in passing, 25 stops\n");
-    uncrowded(crowded(report::worked(25, link(25, 0, 24, 9, fan(25, 24)))));
+    say(b"13 ways of time 10 in passing, 15 stops\n");
+    uncrowded(crowded(report::worked(15, link(15, 0, 14, 9, fan(15, 14)))));
 }

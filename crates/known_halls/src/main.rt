@@ -3,6 +3,7 @@
 mod line;
 mod listed;
 mod lists;
+mod moved;
 mod report;
 mod sizes;
 mod smallest;
@@ -22,6 +23,9 @@ fn main() {
     lists::shift_change();
     lists::most_edits();
     lists::in_passing();
+    moved::most();
+    moved::too_many();
+    moved::none_between();
     sizes::too_large();
     smallest::no_links();
 }

@@ -12,6 +12,7 @@ use calls::call::EMPTY_HALL;
 use calls::call::IMAGE_READ;
 use calls::call::IMAGE_WRITE;
 use calls::call::INSERT;
+use calls::call::MOVE_OVER;
 use calls::call::WORK_OUT;
 use calls::call::plain;
 use calls::compare::differing;
@@ -66,6 +67,11 @@ pub fn empty_hall(name: &[u8], n: u64, t: Tables) -> Tables {
 
 pub fn work_out(name: &[u8], n: u64, t: Tables) -> Tables {
     said(name, WORK_OUT, n, t, t)
+}
+
+// Where it is accepted, it leaves the lister's tables by the new scale.
+pub fn move_over(name: &[u8], n: u64, t: Tables) -> Tables {
+    said(name, MOVE_OVER, n, t, t)
 }
 
 // The lister takes the costs that were read; whether they are the right ones is for `same` to say.

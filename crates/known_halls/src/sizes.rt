@@ -16,8 +16,9 @@ fn whole(t: Tables) -> Tables {
     let empty = report::empty_hall(b"empty hall ", 65, t);
     let left = report::work_out(b", work out ", 65, empty);
     report::audit(65, left);
+    let moved = report::move_over(b", move over ", 65, left);
     end();
-    left
+    moved
 }
 
 fn edits(t: Tables) -> Tables {

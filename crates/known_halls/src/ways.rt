@@ -45,114 +45,114 @@ fn start(n: u64) -> Inserts {
     no_inserts(report::empty_hall(b"inserts: empty hall ", n, filled(0, 0)))
 }
 
-// 22 ways.
+// 12 ways.
 pub fn most() {
-    say(b"22 ways, 24 stops\n");
-    let t = report::worked(24, fan(24, 23));
-    report::pair(23, t);
-    report::middle(23, 23, t);
-    reached(24, insert_ways(24, 23, 23, start(24)), t);
+    say(b"12 ways, 14 stops\n");
+    let t = report::worked(14, fan(14, 13));
+    report::pair(13, t);
+    report::middle(13, 13, t);
+    reached(14, insert_ways(14, 13, 13, start(14)), t);
 }
 
-// 22 ways and the first link of one more.
+// 12 ways and the first link of one more.
 fn nearly() -> Tables {
-    let brought = link(25, 23, 24, 0, fan(25, 24));
-    let t = report::work_out(b"but for its last link: work out ", 25, brought);
-    report::audit(25, t);
+    let brought = link(15, 13, 14, 0, fan(15, 14));
+    let t = report::work_out(b"but for its last link: work out ", 15, brought);
+    report::audit(15, t);
     end();
-    report::pair(24, t);
-    report::middle(23, 24, t);
-    report::stop(23, t);
+    report::pair(14, t);
+    report::middle(13, 14, t);
+    report::stop(13, t);
     t
 }
 
-// A work out of all 23, with the cost table that it brings.
+// A work out of all 13, with the cost table that it brings.
 fn at_once(t: Tables) {
-    let left = report::work_out(b"work out ", 25, link(25, 23, 24, 5, t));
-    let theirs = link(25, 23, 24, 0, left);
+    let left = report::work_out(b"work out ", 15, link(15, 13, 14, 5, t));
+    let theirs = link(15, 13, 14, 0, left);
     report::same(theirs, t);
-    report::audit(25, theirs);
+    report::audit(15, theirs);
     end();
 }
 
-// The 23rd way by inserts.
+// The 13th way by inserts.
 fn by_inserts(t: Tables) {
-    let before = inserted(25, 0, 23, 5, insert_ways(25, 24, 23, start(25)));
-    reached(25, before, t);
-    let left = report::edit(b"insert 23 24: ", INSERT, 25, 23, 24, 5, before.tables);
+    let before = inserted(15, 0, 13, 5, insert_ways(15, 14, 13, start(15)));
+    reached(15, before, t);
+    let left = report::edit(b"insert 13 14: ", INSERT, 15, 13, 14, 5, before.tables);
     report::same(left, t);
-    report::audit(25, left);
+    report::audit(15, left);
     end();
 }
 
 pub fn one_more() {
-    say(b"a 23rd way, 25 stops\n");
+    say(b"a 13th way, 15 stops\n");
     let t = nearly();
     at_once(t);
     by_inserts(t);
 }
 
-// 23 ways of time 10 and a link of 9.
+// 13 ways of time 10 and a link of 9.
 fn beside() -> Tables {
-    let t = report::worked(25, link(25, 0, 24, 9, fan(25, 24)));
-    report::pair(24, t);
-    report::middle(24, 24, t);
-    let first = inserted(25, 0, 24, 9, start(25));
-    reached(25, insert_ways(25, 24, 24, first), t);
+    let t = report::worked(15, link(15, 0, 14, 9, fan(15, 14)));
+    report::pair(14, t);
+    report::middle(14, 14, t);
+    let first = inserted(15, 0, 14, 9, start(15));
+    reached(15, insert_ways(15, 14, 14, first), t);
     t
 }
 
 // Deletes the link of 9.
 fn closed(t: Tables) -> Tables {
-    let left = report::edit(b"delete 0 24: ", DELETE, 25, 0, 24, 0, t);
+    let left = report::edit(b"delete 0 14: ", DELETE, 15, 0, 14, 0, t);
     report::same(left, t);
-    report::audit(25, left);
+    report::audit(15, left);
     end();
-    report::pair(24, left);
+    report::pair(14, left);
     left
 }
 
 // Deletes a link of the last way, and then the link of 9.
 fn closed_with_another(t: Tables) {
-    let less = report::edit(b"delete 23 24: ", DELETE, 25, 23, 24, 0, t);
-    report::audit(25, less);
+    let less = report::edit(b"delete 13 14: ", DELETE, 15, 13, 14, 0, t);
+    report::audit(15, less);
     end();
-    let left = report::edit(b"delete 0 24: ", DELETE, 25, 0, 24, 0, less);
-    report::audit(25, left);
+    let left = report::edit(b"delete 0 14: ", DELETE, 15, 0, 14, 0, less);
+    report::audit(15, left);
     end();
-    report::pair(24, left);
-    report::middle(23, 24, left);
-    report::stop(23, left);
+    report::pair(14, left);
+    report::middle(13, 14, left);
+    report::stop(13, left);
 }
 
 pub fn beside_a_link() {
-    say(b"23 ways of time 10 beside a link of 9, 25 stops\n");
+    say(b"13 ways of time 10 beside a link of 9, 15 stops\n");
     closed_with_another(closed(beside()));
 }
 
-// Raises the link from the first stop of 24 to the last; says whether the tables are t then.
+// Raises the link from the first stop of 14 to the last; says whether the tables are t then.
 fn raised(name: &[u8], cost: u64, t: Tables) -> Tables {
-    let left = report::edit(name, RAISE, 24, 0, 23, cost, t);
+    let left = report::edit(name, RAISE, 14, 0, 13, cost, t);
     report::same(left, t);
-    report::audit(24, left);
+    report::audit(14, left);
     end();
     left
 }
 
-// Raises that are refused: to the present cost, past the largest, and to the time of the 22 ways.
+// Raises that are refused: to the present cost, past the largest, and to the time of the 12 ways.
 fn not_raised(t: Tables) -> Tables {
-    let equal = raised(b"raise 0 23 to 9: ", 9, t);
-    let large = raised(b"raise 0 23 to 65536: ", 65536, equal);
-    raised(b"raise 0 23 to 10: ", 10, large)
+    let equal = raised(b"raise 0 13 to 9: ", 9, t);
+    let large = raised(b"raise 0 13 to 65536: ", 65536, equal);
+    raised(b"raise 0 13 to 10: ", 10, large)
 }
 
 pub fn worn_link() {
-    say(b"22 ways of time 10 beside a link of 9 that is raised, 24 stops\n");
-    let t = report::worked(24, link(24, 0, 23, 9, fan(24, 23)));
-    report::pair(23, t);
-    let slower = raised(b"raise 0 23 to 11: ", 11, not_raised(t));
-    report::pair(23, slower);
-    report::middle(23, 23, slower);
-    let unused = raised(b"raise 0 23 to 65535: ", 65535, slower);
-    report::pair(23, unused);
+    say(b"12 ways of time 10 beside a link of 9 that is raised, 14 stops\n");
+    let t = report::worked(14, link(14, 0, 13, 9, fan(14, 13)));
+    report::pair(13, t);
+    let slower = raised(b"raise 0 13 to 11: ", 11, not_raised(t));
+    report::pair(13, slower);
+    report::middle(13, 13, slower);
+    let unused = raised(b"raise 0 13 to 65535: ", 65535, slower);
+    report::pair(13, unused);
 }

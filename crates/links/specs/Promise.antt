@@ -23,7 +23,7 @@ viaOf n b cost time t = getD time b 0 + getD cost (b * n + t) 0
 abbrev pub dearest : ℕ
 dearest = 131070
 
--- no sum of ways into a stop passes this: 63 stops before it, 22 ways each
+-- no sum of ways into a stop passes this: 63 stops before it, 22 ways each, the largest limit of a task
 abbrev pub sumBound : ℕ
 sumBound = 63 * 22
 

@@ -1,16 +1,14 @@
-// The tables' entries, read off a tally.
+// The tables' entries, read off a tally. The scale is what a whole share counts.
 ghost use mathlib.Core.Path.{_≡_};
 ghost use Prim.Native.Nat.{_*_, _≤_, _<_};
 ghost use lib.ListN.{drop, set};
 use crate::route::cell;
+use crate::route::wide;
 use crate::tally::ROOM;
 use crate::tally::through_to;
 use crate::tally::time_to;
 use crate::tally::ways_to;
 use std::num::wrapping_add_u64;
-
-// What a whole share counts.
-const SCALE: u64 = 232792560;
 
 fn at(table: &[u64], i: usize) -> u64 {
     if i < table.len() { table[i] } else { 0 }
@@ -36,7 +34,7 @@ fn put_entry(table: &mut [u64], n: usize, u: usize, v: usize, x: u64)
 
 // What the quickest routes from s to t give v: the scale times those that stop at v ÷ all. Where t is
 // s or v they give nothing.
-fn portion(tally: &[u64; ROOM], s: usize, t: usize, v: usize) -> u64
+fn portion(scale: u32, tally: &[u64; ROOM], s: usize, t: usize, v: usize) -> u64
     requires { ⌜ t ≤ 255 ⌝ }
     requires { ⌜ v ≤ 255 ⌝ }
 {
@@ -50,11 +48,11 @@ fn portion(tally: &[u64; ROOM], s: usize, t: usize, v: usize) -> u64
     if all == 0 {
         return 0;
     }
-    SCALE * through_to(tally, t, v) / all
+    wide(scale) * through_to(tally, t, v) / all
 }
 
 // The share of v in the routes from s, 0 for s itself. A hall's sums of shares fit 64 bits.
-fn share_of(tally: &[u64; ROOM], n: usize, s: usize, v: usize) -> u64
+fn share_of(scale: u32, tally: &[u64; ROOM], n: usize, s: usize, v: usize) -> u64
     requires { ⌜ n ≤ 64 ⌝ }
     requires { ⌜ v < n ⌝ }
 {
@@ -63,13 +61,14 @@ fn share_of(tally: &[u64; ROOM], n: usize, s: usize, v: usize) -> u64
     }
     let mut sum = 0;
     for t in 0..n {
-        sum = wrapping_add_u64(sum, portion(tally, s, t, v));
+        sum = wrapping_add_u64(sum, portion(scale, tally, s, t, v));
     }
     sum
 }
 
 // Fills the rows of s from the tally of its routes.
 pub fn fill_row(
+    scale: u32,
     n: usize,
     s: usize,
     tally: &[u64; ROOM],
@@ -86,7 +85,7 @@ pub fn fill_row(
     for t in 0..n {
         put_entry(time, n, s, t, time_to(tally, t));
         put_entry(ways, n, s, t, ways_to(tally, t));
-        put_entry(share, n, s, t, share_of(tally, n, s, t));
+        put_entry(share, n, s, t, share_of(scale, tally, n, s, t));
     }
 }
 

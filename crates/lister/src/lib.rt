@@ -29,11 +29,12 @@ fn few(n: u64) -> usize
     if n < STOPS as u64 { n as usize } else { STOPS }
 }
 
-// Fills the times, the ways, the shares and the scores of a cost table. What a lent table has behind
-// the hall's entries stays.
+// Fills the times, the ways, the shares and the scores of a cost table; a whole share counts the scale.
+// What a lent table has behind the hall's entries stays.
 pub fn tables(
     cost: &[u32],
     n: u64,
+    scale: u32,
     time: &mut [u64],
     ways: &mut [u64],
     share: &mut [u64],
@@ -48,7 +49,7 @@ pub fn tables(
     let mut tally = [0u64; ROOM];
     for s in 0..n {
         list(cost, n, s, 0, 0, &mut tally);
-        fill_row(n, s, &tally, time, ways, share);
+        fill_row(scale, n, s, &tally, time, ways, share);
     }
     fill_scores(n, share, score);
 }

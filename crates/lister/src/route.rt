@@ -16,7 +16,7 @@ pub fn cell(n: usize, u: usize, v: usize) -> usize
     u * n + v
 }
 
-fn wide(x: u32) -> u64
+pub fn wide(x: u32) -> u64
     ensures { λ r. ⌜ r ≤ 4294967295 ⌝ }
 {
     x as u64

@@ -22,7 +22,7 @@ const THROUGH: usize = 3;
 // The time where there is no route.
 const MARK: u64 = 4294967295;
 
-// A count is cut off here, so that the scale times a count fits 64 bits.
+// A count is cut off here, so that a scale of 32 bits times a count fits 64.
 const MOST: u64 = 4294967295;
 
 fn place(t: usize, i: usize) -> usize

@@ -8,11 +8,11 @@ use borrow.Author.Tests.{eq-eqb}
 use Rattle.routes.specs.Route.{score}
 use Rattle.book.specs.Hall.{Tables, mostStops, mostWays, scale, upTo, filled, sized, right}
 use Rattle.book.specs.Call.{Call, emptyHall, edit, Answer, rule, accepted, refusal, after, answer, Done}
-use Rattle.book.specs.Book.{Book, noLinks, bookRefusal, bookAfter, bookAnswer}
+use Rattle.book.specs.Book.{Book, tablesOf, noLinks, bookRefusal, bookAfter, bookAnswer}
 use Rattle.book.specs.Contract.{Inside, Audited}
 use Rattle.book.proofs.Sizes.{stops, Lengths, lengths}
 use Rattle.book.proofs.Filled.{sized-filled, sized-cost, right-filled, right-true}
-use Rattle.book.proofs.Steps.{Held, held-none, tablesOf, refusal-book, held-after}
+use Rattle.book.proofs.Steps.{Held, held-none, refusal-book, held-after}
 use Rattle.book.specs.declared.Edit.{Edit}
 use Rattle.words.specs.declared.Line.{Line}
 use Rattle.words.specs.declared.Line.the-variants.{Read, Unread}

@@ -14,7 +14,7 @@ use Rattle.listing.specs.declared.Listed.{Listed}
 
 -- room for the listing of any text. A text has at most 32,768 bytes. For each byte of a line, its line feed among them, which the last
 -- line may lack, at most 13 bytes are printed: an empty line is unread, and the 17 of an edit come from ten or more. With the first line
--- and 64 scores: 24 + 32,769 × 13 + 64 × 35 = 428,261 bytes, rounded up
+-- and 64 scores: 20 + 32,769 × 13 + 64 × 35 = 428,257 bytes, rounded up
 abbrev pub room : ℕ
 room = 430000
 

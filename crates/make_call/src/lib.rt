@@ -13,6 +13,7 @@ use calls::call::EMPTY_HALL;
 use calls::call::IMAGE_READ;
 use calls::call::IMAGE_WRITE;
 use calls::call::INSERT;
+use calls::call::MOVE_OVER;
 use calls::call::RAISE;
 use calls::call::WORK_OUT;
 use calls::call::edit_of;
@@ -31,6 +32,7 @@ use hall::work_out::work_out;
 use image_form::image_check::image_check;
 use images::image_read::image_read;
 use images::image_write::image_write;
+use moves::move_over;
 ghost use mathlib.Core.Path.{_≡_};
 ghost use Rattle.book.specs.Call.{number, imageCheck};
 ghost use Rattle.make_call.specs.Room.{Room};
@@ -72,6 +74,7 @@ fn on_lent(
         EDIT_LIST => of_list(edit_flat(n, list, cost, time, ways, share, score)),
         IMAGE_WRITE => of_write(image_write(n, cost, time, ways, share, score, buffer)),
         IMAGE_READ => of_refusal(image_read(n, image, cost, time, ways, share, score)),
+        MOVE_OVER => of_refusal(move_over(n, cost, time, ways, share, score)),
         _ => check(image, n),
     }
 }

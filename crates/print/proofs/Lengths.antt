@@ -76,7 +76,7 @@ edit-short i x b h held =
 
     most : accepted (bookRefusal call b) ≡ true → before ≤ largestCost
     most ok =
-        let p = permitted n x (b .links) (accepted-book call b ok .2) in
+        let p = permitted n x (b .links) (accepted-book call b ok .3) in
         valid-costs n (b .links) (held .valid) .most (x .u) (x .v) (p .from) (p .to)
 
 pub unread-short : (i : ℕ) → i ≤ longest + 1 → length (unreadLine i) ≤ unreadBytes
@@ -101,4 +101,4 @@ stop-short v x h fits = simp length-append (omega (arith, decimal-below 1 v h, d
 
 pub head-short : (n : ℕ) → n < 100 → length (hallLine n) ≤ hallBytes
 unfolding bytes
-head-short n h = simp length-append (omega (arith, decimal-below 1 n h, decimal-below 8 scale (lit< tt)))
+head-short n h = simp length-append (omega (arith, decimal-below 1 n h, decimal-below 4 scale (lit< tt)))

@@ -5,10 +5,10 @@ use mathlib.Core.List.{List}
 use lib.ListN.{length}
 use lib.Seq.{sets}
 
--- the most bytes of a printed line, its line feed among them: `hall 64 scale 232792560`; `32769 unread`; an edit's `32769 0 63 65535`,
+-- the most bytes of a printed line, its line feed among them: `hall 64 scale 27720`; `32769 unread`; an edit's `32769 0 63 65535`,
 -- longer than a refused one's `32769 11 0 0`; `stop 63 score ` and 20 digits
 abbrev pub hallBytes : ℕ
-hallBytes = 24
+hallBytes = 20
 
 abbrev pub unreadBytes : ℕ
 unreadBytes = 13

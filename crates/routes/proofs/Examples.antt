@@ -8,9 +8,9 @@ use Rattle.routes.specs.Route.{Costs, mark, sumTo, joinTo, listTo, count
 abbrev table : ℕ → (ℕ → ℕ → ℕ) → List ℕ
 table n f = joinTo n (λ s. listTo n (f s))
 
--- a scale that 1 to 3 divide
+-- the scale, as document 02, §5 has it
 abbrev L : ℕ
-L = 6
+L = 27720
 
 -- Document 01's hall of four stops: two routes of time 10 from 0 to 3, one over 1 and one over 2.
 abbrev pub diamond : Costs

@@ -26,3 +26,4 @@ pub mod Rows
 pub mod Stored
 pub mod Copies
 pub mod Tests
+pub mod Scales

@@ -16,9 +16,9 @@ keep p (r ∷ rs) = cond (p r) (r ∷ keep p rs) (keep p rs)
 quick : Costs → ℕ → ℕ → ℕ → List (List ℕ)
 quick W n s t = keep (λ r. eqb (time W r) (leastTime W n s t)) (routes W n s t)
 
--- a scale that 1 and 2 divide
+-- the scale, as document 02, §5 has it
 abbrev L : ℕ
-L = 2
+L = 27720
 
 -- a score by any list of routes for each pair, and any rule on which pairs to leave out
 scored : (ℕ → ℕ → List (List ℕ)) → (ℕ → ℕ → Bool) → ℕ → ℕ → ℕ

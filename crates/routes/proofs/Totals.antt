@@ -1,5 +1,5 @@
 -- How many ways a row has in all. Taken from near to far, a stop has no more ways than all nearer ones together, so at most
--- 1, 1, 2, 4, 8, 16, and from then on 23, one more than the limit: 1,366 in all, which is below 63 × 22. Assumes nothing.
+-- 1, 1, 2, 4, 8, 16, and from then on 23, one more than the largest limit of a task: 1,366 in all, which is below 63 × 22. Assumes nothing.
 use Prim.Native.Nat.{ℕ, zero, suc, _+_, _-_, _*_, _<_, _≤_, min}
 use mathlib.Core.Path.{_≡_, refl, _∙_, ap}
 use mathlib.Core.Logic.{_≢_}

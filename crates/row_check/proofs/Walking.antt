@@ -1,12 +1,13 @@
 -- The loop over the links from one stop: what holds between two turns. Assumes nothing.
-use Prim.Native.Nat.{ℕ, _+_, _*_, _^_, _<_, _≤_}
+use Prim.Native.Nat.{ℕ, _+_, _-_, _*_, _^_, _<_, _≤_}
 use mathlib.Core.Path.{_≡_, refl, _∙_, ap₂}
 use mathlib.Core.Bool.{Bool, true, false, cond, _||_, true≢false}
 use mathlib.Core.List.{List}
+use native.Mathlib.Nat.{suc-mul, mul-le-mul-right}
 use native.Mathlib.Omega.{arith}
 use lib.Dec.{eqb, ltb}
-use lib.ListN.{length, set, length-set}
-use lib.Seq.{getD-set-same, getD-set-other}
+use lib.ListN.{length, getD, set, take, drop, length-set, length-drop}
+use lib.Seq.{getD-set-same, getD-set-other, length-take-le, getD-take, getD-drop}
 use borrow.Author.Tests.{ltb-false, le-ltb}
 use Rattle.routes.specs.Route.{has, sumTo}
 use Rattle.routes.proofs.Booleans.{both}
@@ -28,6 +29,16 @@ neither false b e = (refl, e)
 pub under : (b : Bool) {x m : ℕ} → x ≤ m → cond b x 0 ≤ m
 under true h = h
 under false h = omega arith
+
+-- row u of a flat table: where it ends, how long it is, and its entries
+pub row-ends : (n u : ℕ) → n ≤ 64 → u < n → (u * n + n ≤ n * n) × (n * n ≤ 4096)
+row-ends n u most inside = (omega (arith, suc-mul u n, mul-le-mul-right n inside), omega (arith, mul-le-mul-right n most))
+
+pub row-length : (n u : ℕ) (l : List ℕ) → u * n + n ≤ length l → length (take (u * n + n - u * n) (drop (u * n) l)) ≡ n
+row-length n u l fits = length-take-le (u * n + n - u * n) (drop (u * n) l) (omega (arith, length-drop (u * n) l)) ∙ omega arith
+
+pub row-entry : (n u t : ℕ) (l : List ℕ) → t < n → getD (take (u * n + n - u * n) (drop (u * n) l)) t 0 ≡ getD l (u * n + t) 0
+row-entry n u t l h = getD-take (u * n + n - u * n) (drop (u * n) l) t 0 (omega arith) ∙ getD-drop (u * n) l t 0
 
 -- going over the links from u: what is left is still to come, and what was passed is done
 module _ (n s u links : ℕ) (cost time ways psi old : List ℕ) (before : Bool) where

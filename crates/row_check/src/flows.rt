@@ -29,6 +29,8 @@ fn scan(
     ensures { λ r. ⌜ Scans n u links (now (cost .entry)) (now (time .entry)) (now (ways .entry)) (now (psi .entry)) (now (sum .entry)) (now (sum .exit)) bad (r .flow) (r .bad) ⌝ }
 {
     let base = u * n;
+    let end = base + n;
+    let row = &cost[base..end];
     let near = numbers::wide(time[u]);
     let more = counts::of_entry(ways[u]);
     let mut flow: u64 = 0;
@@ -36,7 +38,7 @@ fn scan(
     let mut left = links;
     while left != 0 {
         let t = sets::lowest(left);
-        let via = near + numbers::wide(cost[base + t]);
+        let via = near + numbers::wide(row[t]);
         let far = numbers::wide(time[t]);
         let tight = via == far;
         worse |= via < far;

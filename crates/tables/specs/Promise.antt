@@ -10,12 +10,12 @@ use Rattle.routes.specs.Route.{Costs, sumTo, listTo, allTo, has, leastTime, way
 use Rattle.routes.specs.Equations.{cappedWays, openShare}
 use Rattle.links.specs.Promise.{masked}
 use Rattle.row_check.specs.Promise.{isRow}
-use Rattle.book.specs.Hall.{largestCost, entry, filled, uncrowded}
+use Rattle.book.specs.Hall.{largestCost, oldMostWays, entry, filled, uncrowded}
 
 -- a limit of ways m and a scale L that row work takes: every number of ways up to the limit divides the scale
 pub record Measure (m L : ℕ) : Type 0 where
   pub some : 0 < m
-  pub few : m ≤ 22
+  pub few : m ≤ oldMostWays
   pub fine : L ≤ 2 ^ 32
   pub whole : (k : ℕ) → 0 < k → k ≤ m → k ∣ L
 

@@ -73,7 +73,7 @@ pub fn costs(seed: &mut u64, n: u64) -> [u32; CELLS] {
     let even = once_in(seed, 2);
     let mut density = 1 + draw(seed, 8);
     if even {
-        density = 7 + draw(seed, 2);
+        density = 6 + draw(seed, 3);
     }
     fill(seed, n, density, even, &mut cost);
     let shape = draw(seed, 5);
@@ -86,9 +86,13 @@ pub fn costs(seed: &mut u64, n: u64) -> [u32; CELLS] {
     cost
 }
 
-// Takes two links out of a hall of seven stops: of 32 ways from the first stop to the last, an even
-// hall with all links forward then has 22 or 23.
+// Takes two links out. Of 16 ways from the first stop to the last, an even hall of six stops with all
+// links forward then has 12 or 13; of 32 ways one of seven stops has 22 or 23.
 fn near_limit(seed: &mut u64, n: u64, cost: &mut [u32; CELLS]) {
+    if n == 6 {
+        put(cost, 9, 0);
+        put(cost, 3 + draw(seed, 2) as usize, 0);
+    }
     if n == 7 {
         put(cost, 9, 0);
         put(cost, 4 + draw(seed, 2) as usize, 0);

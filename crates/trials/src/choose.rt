@@ -23,6 +23,7 @@ use calls::call::IMAGE_CHECK;
 use calls::call::IMAGE_READ;
 use calls::call::IMAGE_WRITE;
 use calls::call::INSERT;
+use calls::call::MOVE_OVER;
 use calls::call::RAISE;
 use calls::call::WORK_OUT;
 use calls::call::plain;
@@ -45,18 +46,19 @@ pub fn stops(seed: &mut u64) -> u64 {
     let x = draw(seed, 20);
     match x {
         0 => 1,
-        1 | 2 => 2,
-        3..=5 => 3,
-        6..=9 => 4,
-        10..=13 => 5,
-        14..=16 => 6,
+        1 => 2,
+        2 | 3 => 3,
+        4..=6 => 4,
+        7..=10 => 5,
+        11..=16 => 6,
         _ => 7,
     }
 }
 
-// Which call comes next: of 31, seventeen are edits and two are lists, and the last is an empty hall or an insert.
+// Which call comes next: of 32, seventeen are edits, two are lists and one is a moving call; the last is an empty hall or an
+// insert.
 pub fn call(seed: &mut u64) -> u64 {
-    let x = draw(seed, 31);
+    let x = draw(seed, 32);
     match x {
         0..=4 => INSERT,
         5..=8 => CHEAPEN,
@@ -68,6 +70,7 @@ pub fn call(seed: &mut u64) -> u64 {
         24 | 25 => IMAGE_WRITE,
         26..=28 => IMAGE_READ,
         29 => IMAGE_CHECK,
+        30 => MOVE_OVER,
         _ => if once_in(seed, 4) { EMPTY_HALL } else { INSERT },
     }
 }
@@ -113,15 +116,15 @@ fn outer(stops: u64) -> Pair {
 // Two stops: often the first and the last or the first two, rarely the same twice.
 fn two(seed: &mut u64, stops: u64) -> Pair {
     let x = draw(seed, 12);
-    if x == 0 {
+    if x < 2 {
         return Pair(0, 1);
     }
-    if x == 1 {
+    if x < 4 {
         return outer(stops);
     }
     let u = stop(seed, stops);
     let v = stop(seed, stops);
-    if x == 2 {
+    if x == 4 {
         return Pair(u, v);
     }
     if u != v {
@@ -192,8 +195,8 @@ fn blemish(seed: &mut u64, stops: u64, cost: &mut [u32; CELLS]) {
     }
 }
 
-// A cost table for work out.
-fn brought(seed: &mut u64, stops: u64) -> [u32; CELLS] {
+// A cost table that work out is to take, or sometimes not.
+pub fn brought(seed: &mut u64, stops: u64) -> [u32; CELLS] {
     let mut cost = costs(seed, stops);
     blemish(seed, stops, &mut cost);
     cost
@@ -373,9 +376,9 @@ pub fn reversal(ask: Ask, answer: Answer) -> Ask {
     }
 }
 
-// The empty hall with which a sequence starts.
-pub fn start(stops: u64) -> Ask {
-    let call = plain(EMPTY_HALL, stops);
+// The call with which a sequence starts.
+pub fn start(number: u64, stops: u64) -> Ask {
+    let call = plain(number, stops);
     let cost = [0u32; CELLS];
     let bytes = [0u8; BYTES];
     Ask {

@@ -4,6 +4,7 @@ use super::model;
 use super::model::Book;
 use super::model::Verdict;
 use super::outcome::Outcome;
+use super::outcome::costs;
 use super::places::BYTES;
 use calls::answer::Answer;
 use calls::compare::answers;
@@ -70,15 +71,26 @@ fn behind(n: u64, t: Tables, o: Tables) -> u64 {
     )
 }
 
-// Whether tables are not those of their own costs, or these are refused.
-pub fn wrong(n: u64, t: Tables, seen: Book) -> bool {
+// Whether tables are not those of their own costs, or these are not valid, or a pair has more ways than the limit.
+fn unlike_book(n: u64, t: Tables, seen: Book, limit: u64) -> bool {
     if model::bad_costs(n, &seen.cost) {
         return true;
     }
-    if model::crowded(n, &seen.ways, model::WAYS) {
+    if model::crowded(n, &seen.ways, limit) {
         return true;
     }
     with_book(n, t, seen) != 0
+}
+
+// By the new numbers; `seen` is the book of their costs.
+pub fn wrong(n: u64, t: Tables, seen: Book) -> bool {
+    unlike_book(n, t, seen, model::WAYS)
+}
+
+// By the old ones, as the moving call tests them.
+pub fn wrong_before(n: u64, t: Tables) -> bool {
+    let seen = model::old_book_of(n, costs(t));
+    unlike_book(n, t, seen, model::OLD_WAYS)
 }
 
 // What a call answers and leaves in the buffer.

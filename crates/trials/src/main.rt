@@ -1,5 +1,6 @@
-// Sequences of calls at random on halls of one to seven stops. Each answer and each table is held
-// against a book of links, document 01's rules of refusal and the slow lister.
+// Sequences of calls at random on halls of one to seven stops, from an empty hall or a moved one. Each
+// answer and each table is held against a book of links, the documents' rules of refusal and the slow
+// lister.
 mod chance;
 mod choose;
 mod compare;
@@ -7,13 +8,16 @@ mod draft;
 mod image;
 mod in_turn;
 mod model;
+mod old;
 mod outcome;
 mod places;
 mod tally;
 
 use calls::answer::Answer;
 use calls::call::EDIT_LIST;
+use calls::call::EMPTY_HALL;
 use calls::call::IMAGE_CHECK;
+use calls::call::MOVE_OVER;
 use calls::call::WORK_OUT;
 use calls::call::is_edit;
 use calls::compare::differing;
@@ -125,6 +129,56 @@ fn spoiled_trial(
     }
 }
 
+// A moving call on five tables, which it judges by the old numbers. Their costs are the book's.
+fn moving(tally: &mut [u64; ROOM], ask: Ask, stops: u64, tables: Tables) -> State {
+    let seen = model::book_of(stops, outcome::costs(tables));
+    let wrong = compare::wrong_before(stops, tables);
+    let next = trial(tally, ask, stops, seen, tables, wrong);
+    tally::add_move(
+        tally,
+        model::most_ways(stops, &seen.ways),
+        next.answer.refusal,
+    );
+    next
+}
+
+// The tables for a moving call: mostly the present ones; else these with one entry changed, or the old ones of their costs.
+fn to_move(seed: &mut u64, tally: &mut [u64; ROOM], stops: u64, hall: Tables) -> Tables {
+    let x = draw(seed, 8);
+    match x {
+        0 => {
+            add(tally, tally::SPOILED, 1);
+            choose::spoiled(seed, stops, hall)
+        }
+        1 => old::of_costs(stops, outcome::costs(hall), hall),
+        _ => hall,
+    }
+}
+
+// A moving call within a sequence. Where it is refused, the present tables are put back.
+fn moving_step(
+    seed: &mut u64,
+    tally: &mut [u64; ROOM],
+    ask: Ask,
+    stops: u64,
+    state: State,
+) -> State {
+    let book = state.book;
+    let hall = state.hall;
+    let tables = to_move(seed, tally, stops, hall);
+    let next = moving(tally, ask, stops, tables);
+    if !next.refused {
+        return next;
+    }
+    let answer = next.answer;
+    State {
+        book,
+        hall,
+        answer,
+        refused: true,
+    }
+}
+
 // Reverses an accepted edit, from what it answered: the five tables are to be those before it.
 fn reversed_trial(
     tally: &mut [u64; ROOM],
@@ -168,6 +222,9 @@ fn step(seed: &mut u64, tally: &mut [u64; ROOM], stops: u64, state: State, call:
     let hall = state.hall;
     let cost = book.cost;
     let ask = choose::ask(seed, call, stops, cost);
+    if call == MOVE_OVER {
+        return moving_step(seed, tally, ask, stops, state);
+    }
     if call != IMAGE_CHECK {
         if once_in(seed, 8) {
             return spoiled_trial(seed, tally, ask, stops, book, hall);
@@ -180,17 +237,55 @@ fn step(seed: &mut u64, tally: &mut [u64; ROOM], stops: u64, state: State, call:
     next
 }
 
-// An empty hall, over tables of any content.
-fn first(tally: &mut [u64; ROOM], stops: u64) -> State {
+// An empty hall, over tables of any content; in half of the cases a work out follows.
+fn emptied(seed: &mut u64, tally: &mut [u64; ROOM], stops: u64, tables: Tables) -> State {
     let none = [0u32; CELLS];
-    trial(
+    let state = trial(
         tally,
-        choose::start(stops),
+        choose::start(EMPTY_HALL, stops),
         stops,
         model::book_of(stops, none),
-        filled(7, 7),
+        tables,
         true,
-    )
+    );
+    if once_in(seed, 2) {
+        return step(seed, tally, stops, state, WORK_OUT);
+    }
+    state
+}
+
+// The old tables of a drawn hall, sometimes with one entry changed.
+fn old_hall(seed: &mut u64, tally: &mut [u64; ROOM], stops: u64) -> Tables {
+    let tables = old::drawn(seed, stops);
+    if 0 < draw(seed, 8) {
+        return tables;
+    }
+    add(tally, tally::SPOILED, 1);
+    choose::spoiled(seed, stops, tables)
+}
+
+// A moved hall; where it does not move over, an empty one.
+fn moved(seed: &mut u64, tally: &mut [u64; ROOM], stops: u64) -> State {
+    let old = old_hall(seed, tally, stops);
+    let state = moving(tally, choose::start(MOVE_OVER, stops), stops, old);
+    let left = state.hall;
+    let book = state.book;
+    if state.refused {
+        return emptied(seed, tally, stops, left);
+    }
+    add(tally, tally::MOVED, 1);
+    if model::crowded(stops, &book.ways, 1) {
+        add(tally, tally::MOVED_TIES, 1);
+    }
+    state
+}
+
+// Four of five sequences begin with a moving call, so that about half start from a moved hall.
+fn first(seed: &mut u64, tally: &mut [u64; ROOM], stops: u64) -> State {
+    if once_in(seed, 5) {
+        return emptied(seed, tally, stops, filled(7, 7));
+    }
+    moved(seed, tally, stops)
 }
 
 fn steps(seed: &mut u64, tally: &mut [u64; ROOM], stops: u64, start: State, count: u64) {
@@ -204,10 +299,7 @@ fn steps(seed: &mut u64, tally: &mut [u64; ROOM], stops: u64, start: State, coun
 fn sequence(seed: &mut u64, tally: &mut [u64; ROOM]) {
     let stops = choose::stops(seed);
     add(tally, tally::SEQUENCES, 1);
-    let mut state = first(tally, stops);
-    if once_in(seed, 2) {
-        state = step(seed, tally, stops, state, WORK_OUT);
-    }
+    let state = first(seed, tally, stops);
     let count = 20 + draw(seed, 21);
     steps(seed, tally, stops, state, count);
 }

@@ -20,6 +20,7 @@ use calls::call::IMAGE_CHECK;
 use calls::call::IMAGE_READ;
 use calls::call::IMAGE_WRITE;
 use calls::call::INSERT;
+use calls::call::MOVE_OVER;
 use calls::call::RAISE;
 use calls::call::WORK_OUT;
 use calls::call::is_edit;
@@ -44,12 +45,30 @@ pub struct Verdict {
     pub bytes: [u8; BYTES],
 }
 
-pub fn book_of(n: u64, cost: [u32; CELLS]) -> Book {
+// The most ways of a pair and what a whole share counts, and both before.
+pub const WAYS: u64 = 12;
+
+const SCALE: u32 = 27720;
+
+pub const OLD_WAYS: u64 = 22;
+
+const OLD_SCALE: u32 = 232792560;
+
+// By one of the scales.
+fn listed(n: u64, scale: u32, cost: [u32; CELLS]) -> Book {
     let mut time = [0u64; CELLS];
     let mut ways = [0u64; CELLS];
     let mut share = [0u64; CELLS];
     let mut score = [0u64; STOPS];
-    lister::tables(&cost, n, &mut time, &mut ways, &mut share, &mut score);
+    lister::tables(
+        &cost,
+        n,
+        scale,
+        &mut time,
+        &mut ways,
+        &mut share,
+        &mut score,
+    );
     Book {
         cost,
         time,
@@ -57,6 +76,14 @@ pub fn book_of(n: u64, cost: [u32; CELLS]) -> Book {
         share,
         score,
     }
+}
+
+pub fn book_of(n: u64, cost: [u32; CELLS]) -> Book {
+    listed(n, SCALE, cost)
+}
+
+pub fn old_book_of(n: u64, cost: [u32; CELLS]) -> Book {
+    listed(n, OLD_SCALE, cost)
 }
 
 // Whether an entry of a cost table is one that work out refuses.
@@ -83,18 +110,25 @@ pub fn bad_costs(n: u64, cost: &[u32; CELLS]) -> bool {
     bad
 }
 
-// The most ways of a pair, and the most edits of a list.
-pub const WAYS: u64 = 22;
-
+// The most edits of a list.
 const EDITS: usize = 32;
+
+fn larger(x: u64, y: u64) -> u64 {
+    if x < y { y } else { x }
+}
+
+// The ways of the pair that has the most.
+pub fn most_ways(n: u64, ways: &[u64; CELLS]) -> u64 {
+    let mut most = 0u64;
+    for i in 0..cells(n) {
+        most = larger(most, at_long(ways, i));
+    }
+    most
+}
 
 // Whether a pair has more ways than a limit.
 pub fn crowded(n: u64, ways: &[u64; CELLS], limit: u64) -> bool {
-    let mut more = false;
-    for i in 0..cells(n) {
-        more |= limit < at_long(ways, i);
-    }
-    more
+    limit < most_ways(n, ways)
 }
 
 // The cost of a link that is inserted, cheapened or raised.
@@ -200,19 +234,20 @@ fn list_refusal(ask: Ask) -> u64 {
     if EDITS < ask.list.length { 12 } else { 0 }
 }
 
-// Refusals 4 to 8, 10 and 12, of the calls that audit the tables; a list's edits are judged in their turn.
+// Refusals 4 to 8, 10 and 12, of the calls that test the tables; a list's edits are judged in their turn.
 fn held_refusal(ask: Ask, stops: u64, cost: [u32; CELLS]) -> u64 {
     let call = ask.call;
     let number = call.number;
     match number {
-        AUDIT => 0,
+        AUDIT | MOVE_OVER => 0,
         EDIT_LIST => list_refusal(ask),
         IMAGE_WRITE => write_refusal(ask, stops, cost),
         _ => edit_refusal(call, at(&cost, place(stops, call.u, call.v))),
     }
 }
 
-// Refusals 1 to 10 and 12, by rising number; `wrong` says that the tables are not those of their hall.
+// Refusals 1 to 10 and 12, by rising number; `wrong` says that the tables are not those of their hall, for the
+// moving call by the old numbers.
 fn refusal(ask: Ask, stops: u64, cost: [u32; CELLS], wrong: bool) -> u64 {
     let call = ask.call;
     let size = size_refusal(call, ask.odd, stops);
@@ -340,6 +375,14 @@ pub fn edited(ask: Ask, stops: u64, book: Book) -> Verdict {
     changed(ask, stops, book)
 }
 
+// A moving call that fails none of the tests 1 to 3. It leaves the tables of the book.
+fn moved(ask: Ask, stops: u64, book: Book) -> Verdict {
+    if crowded(stops, &book.ways, WAYS) {
+        return refused(11, ask, book);
+    }
+    refused(0, ask, book)
+}
+
 // What the call must answer and leave.
 pub fn expect(ask: Ask, stops: u64, book: Book, wrong: bool) -> Verdict {
     let cost = book.cost;
@@ -352,6 +395,7 @@ pub fn expect(ask: Ask, stops: u64, book: Book, wrong: bool) -> Verdict {
         AUDIT | IMAGE_CHECK => refused(0, ask, book),
         IMAGE_WRITE => wrote(ask, stops, book),
         EDIT_LIST => in_turn::listed(ask, stops, book),
+        MOVE_OVER => moved(ask, stops, book),
         _ => changed(ask, stops, book),
     }
 }

@@ -55,7 +55,7 @@ fn made(
 }
 
 // Takes the first costs over from another table.
-fn put_costs(from: &[u32; CELLS], count: usize, cost: &mut [u32; tables::CELLS]) {
+pub fn put_costs(from: &[u32; CELLS], count: usize, cost: &mut [u32; tables::CELLS]) {
     for i in 0..count {
         put(cost, i, at(from, i));
     }

@@ -1,4 +1,5 @@
 // What is counted: the refusals of each call, and what was compared.
+use super::model::OLD_WAYS;
 use calls::answer::Answer;
 use calls::call::AUDIT;
 use calls::call::CALLS;
@@ -10,6 +11,7 @@ use calls::call::IMAGE_CHECK;
 use calls::call::IMAGE_READ;
 use calls::call::IMAGE_WRITE;
 use calls::call::INSERT;
+use calls::call::MOVE_OVER;
 use calls::call::RAISE;
 use calls::call::WORK_OUT;
 use std::num::wrapping_add_u64;
@@ -58,7 +60,17 @@ pub const UNDONE: usize = REFUSED + PLACES;
 // Lists refused with 11 behind their first edit: too many ways in passing.
 const PASSING: usize = UNDONE + 1;
 
-pub const ROOM: usize = PASSING + 1;
+// Sequences that start from a moved hall, and those of them with a pair of several ways.
+pub const MOVED: usize = PASSING + 1;
+
+pub const MOVED_TIES: usize = PASSING + 2;
+
+// Moving calls by the most ways of a pair, 0 to 32.
+const MOVES: usize = PASSING + 3;
+
+const MOST: usize = 33;
+
+pub const ROOM: usize = MOVES + MOST;
 
 pub fn add(tally: &mut [u64; ROOM], i: usize, x: u64) {
     if i < ROOM {
@@ -112,6 +124,13 @@ pub fn add_list(tally: &mut [u64; ROOM], length: usize, answer: Answer) {
     }
     if answer.refusal == 12 {
         add_at(tally, TOO_LONG, length as u64, LENGTHS);
+    }
+}
+
+// Counts a moving call that its ways decide: one that is accepted or refused with 11, or with 3 where they pass the old limit.
+pub fn add_move(tally: &mut [u64; ROOM], most: u64, refusal: u64) {
+    if (refusal == 0) | (refusal == 11) | (refusal == 3) & (OLD_WAYS < most) {
+        add_at(tally, MOVES, most, MOST);
     }
 }
 
@@ -227,8 +246,32 @@ fn lists(tally: &[u64; ROOM]) {
     );
 }
 
+// Writes what moving calls were met.
+fn moves(tally: &[u64; ROOM]) {
+    counts(
+        b"moving calls accepted, 1 to 12 ways at most",
+        tally,
+        MOVES + 1,
+        MOVES + 13,
+    );
+    counts(
+        b"refused with 11, 13 to 22 ways",
+        tally,
+        MOVES + 13,
+        MOVES + 23,
+    );
+    counts(
+        b"refused with 3, 23 to 32 ways",
+        tally,
+        MOVES + 23,
+        MOVES + 33,
+    );
+}
+
 pub fn write(tally: &[u64; ROOM]) {
     line(b"sequences", count(tally, SEQUENCES));
+    line(b"sequences from moved halls", count(tally, MOVED));
+    line(b"moved halls with ties", count(tally, MOVED_TIES));
     line(b"answers", count(tally, ANSWERS));
     line(b"tables", count(tally, TABLES));
     line(b"touched sources", count(tally, TOUCHED));
@@ -249,8 +292,10 @@ pub fn write(tally: &[u64; ROOM]) {
     refusals_of(b"edit list", tally, EDIT_LIST);
     refusals_of(b"image write", tally, IMAGE_WRITE);
     refusals_of(b"image read", tally, IMAGE_READ);
+    refusals_of(b"move over", tally, MOVE_OVER);
     refusals_of(b"image check", tally, IMAGE_CHECK);
     lists(tally);
+    moves(tally);
     line(b"differences", count(tally, DIFFERENCES));
     line(b"first in answer", count(tally, FIRST));
 }

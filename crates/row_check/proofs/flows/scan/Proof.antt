@@ -2,31 +2,42 @@
 use borrow.Author.Needs.{needs}
 use Prim.Native.Nat.{_+_, _*_}
 use native.Mathlib.Omega.{arith}
+use mathlib.Core.Path.{_∙_}
 use Rattle.links.proofs.Flat.{flat-lt}
-use Rattle.row_check.proofs.Walking.{Walking, walking-starts, walking-inside, walking-flow, walking-adds, walking-goes, walking-ends}
+use Rattle.row_check.proofs.Walking.{row-ends, row-length, row-entry, Walking, walking-starts, walking-inside, walking-flow, walking-adds, walking-goes, walking-ends}
 use Rattle.row_check.proofs.flows.scan.Statement.{statement}
 use Rattle.row_check.proofs.flows.scan.Tie as tie
 
 abbrev Inv-loop : tie.InvT-loop
-Inv-loop n s u links cost time ways psi sum₀ bad base near more flow₀ worse₀ left₀ sum flow worse left = Walking n s u links cost time ways psi sum₀ bad left sum flow worse
+Inv-loop n s u links cost time ways psi sum₀ bad base end row near more flow₀ worse₀ left₀ sum flow worse left = Walking n s u links cost time ways psi sum₀ bad left sum flow worse
 
 abbrev μ-loop : tie.MeasureT-loop
-μ-loop n s u links cost time ways psi sum₀ bad base near more flow₀ worse₀ left₀ sum flow worse left = left
+μ-loop n s u links cost time ways psi sum₀ bad base end row near more flow₀ worse₀ left₀ sum flow worse left = left
 
 mul-base : tie.Need-mul-base Inv-loop μ-loop
 mul-base c =
     let start : tie.Start Inv-loop μ-loop = search in
     let p = start .pre in let f = flat-lt _ _ _ (p .most) (p .inside) (p .inside) in omega arith
 
+add-end : tie.Need-add-end Inv-loop μ-loop
+add-end c =
+    let start : tie.Start Inv-loop μ-loop = search in
+    let p = start .pre in let f = row-ends _ _ (p .most) (p .inside) in omega arith
+
+mul-row : tie.Need-mul-row Inv-loop μ-loop
+mul-row c =
+    let start : tie.Start Inv-loop μ-loop = search in
+    let p = start .pre in let f = row-ends _ _ (p .most) (p .inside) in omega arith
+
+part-row-end : tie.Need-part-row-end Inv-loop μ-loop
+part-row-end c =
+    let start : tie.Start Inv-loop μ-loop = search in
+    let p = start .pre in let f = row-ends _ _ (p .most) (p .inside) in omega (arith, p .square)
+
 of-entry-requires : tie.Need-of-entry-requires Inv-loop μ-loop
 of-entry-requires c κs =
     let start : tie.Start Inv-loop μ-loop = search in
     let p = start .pre in omega (arith, p .small (start .args .u) (p .inside))
-
-add-wide : tie.Need-add-wide Inv-loop μ-loop
-add-wide c =
-    let loop : tie.At-loop Inv-loop μ-loop = search in let start : tie.Start Inv-loop μ-loop = search in
-    let i = walking-inside _ _ _ _ _ _ _ _ _ _ (start .pre) (loop .loop .inv) (c .lowest .ensures) in omega arith
 
 mul-wide-2 : tie.Need-mul-wide-2 Inv-loop μ-loop
 mul-wide-2 c =
@@ -37,7 +48,9 @@ shared-slice-read-wide-2 : tie.Need-shared-slice-read-wide-2 Inv-loop μ-loop
 shared-slice-read-wide-2 c =
     let lowest : tie.After-lowest Inv-loop μ-loop = search in let loop : tie.At-loop Inv-loop μ-loop = search in
     let start : tie.Start Inv-loop μ-loop = search in
-    walking-inside _ _ _ _ _ _ _ _ _ _ (start .pre) (loop .loop .inv) (lowest .lowest .ensures) .1
+    let i = walking-inside _ _ _ _ _ _ _ _ _ _ (start .pre) (loop .loop .inv) (lowest .lowest .ensures) in
+    let f = row-ends _ _ (start .pre .most) (start .pre .inside) in
+    let a = start .args in rw (row-length (a .n) (a .u) (a .cost .now) (omega (arith, start .pre .square))) (omega (arith, i .0))
 
 add-via : tie.Need-add-via Inv-loop μ-loop
 add-via c =
@@ -45,7 +58,7 @@ add-via c =
     let lowest : tie.After-lowest Inv-loop μ-loop = search in let wide : tie.After-wide Inv-loop μ-loop = search in
     let shared-slice-known4 : tie.After-shared-slice-known4 Inv-loop μ-loop = search in
     let start : tie.Start Inv-loop μ-loop = search in
-    let a = start .args in omega (arith, wide .wide .ensures, shared-slice-known4 .shared-slice-known4 .given (a .u), c .wide2 .ensures, shared-slice-known6 .shared-slice-known6 .given (a .u * a .n + lowest .lowest .result))
+    let a = start .args in omega (arith, wide .wide .ensures, shared-slice-known4 .shared-slice-known4 .given (a .u), c .wide2 .ensures, shared-slice-known6 .shared-slice-known6 .given (lowest .lowest .result))
 
 mul-wide-3 : tie.Need-mul-wide-3 Inv-loop μ-loop
 mul-wide-3 c =
@@ -92,9 +105,8 @@ element-copy-out-add c =
 
 add-requires : tie.Need-add-requires Inv-loop μ-loop
 add-requires c κs =
-    let of-entry : tie.After-of-entry Inv-loop μ-loop = search in
     let lowest : tie.After-lowest Inv-loop μ-loop = search in let loop : tie.At-loop Inv-loop μ-loop = search in
-    let start : tie.Start Inv-loop μ-loop = search in
+    let of-entry : tie.After-of-entry Inv-loop μ-loop = search in let start : tie.Start Inv-loop μ-loop = search in
     walking-adds _ _ _ _ _ _ _ _ _ _ (start .pre) (loop .loop .inv) (lowest .lowest .ensures) (of-entry .of-entry .ensures) (c .select-u16 .ensures)
 
 mul-sum : tie.Need-mul-sum Inv-loop μ-loop
@@ -111,13 +123,19 @@ element-write-sum c =
 
 loop-again : tie.Need-loop-again Inv-loop μ-loop
 loop-again c =
-    let add : tie.After-add Inv-loop μ-loop = search in let of-entry : tie.After-of-entry Inv-loop μ-loop = search in
-    let select-u16 : tie.After-select-u16 Inv-loop μ-loop = search in
-    let select-usize : tie.After-select-usize Inv-loop μ-loop = search in
-    let wide3 : tie.After-wide3 Inv-loop μ-loop = search in let wide2 : tie.After-wide2 Inv-loop μ-loop = search in
-    let lowest : tie.After-lowest Inv-loop μ-loop = search in let loop : tie.At-loop Inv-loop μ-loop = search in
-    let wide : tie.After-wide Inv-loop μ-loop = search in let start : tie.Start Inv-loop μ-loop = search in
-    rw (c .rest .ensures) (walking-goes _ _ _ _ _ _ _ _ _ _ (start .pre) (lowest .lowest .ensures) (wide .wide .ensures) (wide2 .wide2 .ensures) (wide3 .wide3 .ensures) (select-usize .select-usize .ensures) (loop .loop .inv) (of-entry .of-entry .ensures) (select-u16 .select-u16 .ensures) (add .add .ensures))
+    let start : tie.Start Inv-loop μ-loop = search in
+    let wide = (let p : tie.After-wide Inv-loop μ-loop = search in p .wide) in
+    let of-entry = (let p : tie.After-of-entry Inv-loop μ-loop = search in p .of-entry) in
+    let loop = (let p : tie.At-loop Inv-loop μ-loop = search in p .loop) in
+    let lowest = (let p : tie.After-lowest Inv-loop μ-loop = search in p .lowest) in
+    let wide2 = (let p : tie.After-wide2 Inv-loop μ-loop = search in p .wide2) in
+    let wide3 = (let p : tie.After-wide3 Inv-loop μ-loop = search in p .wide3) in
+    let select-usize = (let p : tie.After-select-usize Inv-loop μ-loop = search in p .select-usize) in
+    let select-u16 = (let p : tie.After-select-u16 Inv-loop μ-loop = search in p .select-u16) in
+    let add = (let p : tie.After-add Inv-loop μ-loop = search in p .add) in
+    let a = start .args in
+    let read = row-entry (a .n) (a .u) (lowest .result) (a .cost .now) (walking-inside _ _ _ _ _ _ _ _ _ _ (start .pre) (loop .inv) (lowest .ensures) .0) in
+    rw (c .rest .ensures) (walking-goes _ _ _ _ _ _ _ _ _ _ (start .pre) (lowest .ensures) (wide .ensures) (wide2 .ensures ∙ read) (wide3 .ensures) (select-usize .ensures) (loop .inv) (of-entry .ensures) (select-u16 .ensures) (add .ensures))
 
 returns : tie.Need-returns Inv-loop μ-loop
 returns c =
@@ -128,8 +146,9 @@ pub scan-spec : {M : Type 1} → statement M
 scan-spec =
     tie.close
     (tie.spec
-    Inv-loop μ-loop mul-base (λ c. omega arith) (λ c. omega arith) (λ c κs. tt) (λ c. search needs)
-    (λ c. search needs) of-entry-requires (λ c. search (needs, walking-starts)) (λ c κs. omega arith) add-wide
-    mul-wide-2 shared-slice-read-wide-2 (λ c κs. tt) add-via mul-wide-3 shared-slice-read-wide-3 (λ c κs. tt)
-    (λ c κs. tt) mul-flow element-copy-out-flow add-flow mul-add element-copy-out-add (λ c κs. search needs)
-    add-requires mul-sum element-write-sum (λ c κs. omega arith) (λ c. omega arith) loop-again returns)
+    Inv-loop μ-loop mul-base add-end mul-row (λ c. search needs) (λ c. search needs) part-row-end (λ c. omega arith)
+    (λ c. omega arith) (λ c κs. tt) (λ c. search needs) (λ c. search needs) of-entry-requires
+    (λ c. search (needs, walking-starts)) (λ c κs. omega arith) mul-wide-2 shared-slice-read-wide-2 (λ c κs. tt)
+    add-via mul-wide-3 shared-slice-read-wide-3 (λ c κs. tt) (λ c κs. tt) mul-flow element-copy-out-flow add-flow
+    mul-add element-copy-out-add (λ c κs. search needs) add-requires mul-sum element-write-sum (λ c κs. omega arith)
+    (λ c. omega arith) loop-again returns)

@@ -1,0 +1,64 @@
+-- The moving call, from its tests to what it promises; and the loop that divides. Assumes nothing.
+use Prim.Native.Nat.{ℕ, _/_, _≤_}
+use native.Mathlib.Omega.{arith}
+use mathlib.Core.Path.{_≡_, refl, sym, _∙_, ap}
+use mathlib.Core.Bool.{true, false}
+use mathlib.Core.List.{List}
+use lib.Dec.{leb}
+use lib.ListN.{length, getD, length-map, List·getD-map}
+use lib.Seq.{ext-getD}
+use Rattle.routes.specs.Route.{allTo}
+use Rattle.routes.specs.Stored.{Stored}
+use Rattle.routes.proofs.Tests.{all-flat}
+use Rattle.book.specs.Hall.{Tables, mostWays, oldMostWays, oldScale, oldPerNew, divided, entry, sized, right}
+use Rattle.book.specs.Call.{accepted, need, chain, rule, refusal, Done}
+use Rattle.book.specs.Contract.{tables, ofRefusal}
+use Rattle.book.specs.declared.Refusal.{Refusal}
+use Rattle.book.specs.declared.Refusal.the-variants.{Accepted, TooManyWays}
+use Rattle.book.proofs.Sizes.{lengths}
+use Rattle.book.proofs.Refused.{refused-done}
+use Rattle.book.proofs.Doors.{tests-passed, tests-refused, accepted-done}
+use Rattle.book.proofs.Moves.{moving, move-eleven, move-leaves, move-divides}
+use Rattle.cells.specs.Promise.{noneAbove}
+
+-- an entry divided
+abbrev pub part : List ℕ → ℕ → ℕ
+part l i = getD l i 0 / oldPerNew
+
+-- a loop that stored all of them from the front has divided the list
+pub stored-divided : {k : ℕ} {old now : List ℕ} → length old ≤ k → Stored (part old) k old now → now ≡ divided old
+stored-divided {k} {old} {now} end s =
+    ext-getD 0 now (divided old) (s .long ∙ sym (length-map old (λ x. x / oldPerNew)))
+    (λ i l. s .done i (omega (arith, s .long)) ∙ sym (List·getD-map (λ x. x / oldPerNew) old i 0))
+
+module _ (n : ℕ) (cost time ways share score : List ℕ) where
+  abbrev t : Tables
+  t = tables cost time ways share score
+
+  abbrev Tested : Refusal → Type 0
+  Tested r = r ≡ chain n (sized n t) (right oldScale oldMostWays n t) Accepted
+
+  -- refused with 1, 2 or 3
+  pub move-shut : {r : Refusal} → Tested r → accepted r ≡ false → Done (moving n) t t (ofRefusal r)
+  unfolding rule
+  move-shut {r} e shut = tests-refused (moving n) t (λ s. refl) r e shut
+
+  module _ {r : Refusal} (e : Tested r) (ok : accepted r ≡ true) where
+    -- behind these comes 11, which the table of ways tells
+    told : refusal (moving n) t ≡ need (noneAbove mostWays ways) TooManyWays Accepted
+    told =
+        let (inside, old) = tests-passed n t (right oldScale oldMostWays n t) e ok in
+        let flat : noneAbove mostWays ways ≡ allTo n (λ s. allTo n (λ v. leb (entry n ways s v) mostWays)) = rw (lengths n t (inside .lengths) .counts) (all-flat n n _) in
+        move-eleven n t (inside .size) (inside .lengths) old ∙ ap (λ b. need b TooManyWays Accepted) (sym flat)
+
+    pub move-crowded : noneAbove mostWays ways ≡ false → Done (moving n) t t (ofRefusal TooManyWays)
+    unfolding rule
+    move-crowded many = refused-done (moving n) t TooManyWays (told ∙ rw many) refl
+
+    pub move-accepted : noneAbove mostWays ways ≡ true → {share′ score′ : List ℕ} → share′ ≡ divided share → score′ ≡ divided score →
+        Done (moving n) t (tables cost time ways share′ score′) (ofRefusal Accepted)
+    unfolding rule
+    move-accepted few {share′} {score′} shares scores =
+        let taken : refusal (moving n) t ≡ Accepted = told ∙ rw few in
+        let left : tables cost time ways share′ score′ ≡ tables cost time ways (divided share) (divided score) = λ i. tables cost time ways (shares i) (scores i) in
+        accepted-done (moving n) t (tables cost time ways share′ score′) (ofRefusal Accepted) taken (left ∙ sym (move-divides n t taken) ∙ move-leaves n t taken) refl
