@@ -23,22 +23,16 @@ pub fn over(name: &[u8], n: u64, before: Tables, t: Tables) -> Tables {
 
 // The tables with the share of stop 1 in the routes from stop 0, and its score, larger by so much.
 fn larger(share_by: u64, score_by: u64, t: Tables) -> Tables {
-    let cost = t.cost;
-    let time = t.time;
-    let ways = t.ways;
     let mut share = t.share;
     let mut score = t.score;
     let former_share = at_long(&share, 1);
     let former_score = at_long(&score, 1);
     put_long(&mut share, 1, wrapping_add_u64(former_share, share_by));
     put_long(&mut score, 1, wrapping_add_u64(former_score, score_by));
-    Tables {
-        cost,
-        time,
-        ways,
-        share,
-        score,
-    }
+    let mut next = t;
+    next.share = share;
+    next.score = score;
+    next
 }
 
 // Old tables that are not right.

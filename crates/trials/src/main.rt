@@ -100,6 +100,20 @@ fn trial(
     }
 }
 
+// After a call on other tables than the present ones: these are put back where it was refused.
+fn or_back(next: State, book: Book, hall: Tables) -> State {
+    if !next.refused {
+        return next;
+    }
+    let answer = next.answer;
+    State {
+        book,
+        hall,
+        answer,
+        refused: true,
+    }
+}
+
 // A call on tables with one entry changed, which is put back where the call is refused. Where the
 // tables are still right, they are those of another hall.
 fn spoiled_trial(
@@ -117,16 +131,7 @@ fn spoiled_trial(
         return trial(tally, ask, stops, seen, tables, false);
     }
     let next = trial(tally, ask, stops, book, tables, true);
-    if !next.refused {
-        return next;
-    }
-    let answer = next.answer;
-    State {
-        book,
-        hall,
-        answer,
-        refused: true,
-    }
+    or_back(next, book, hall)
 }
 
 // A moving call on five tables, which it judges by the old numbers. Their costs are the book's.
@@ -167,16 +172,7 @@ fn moving_step(
     let hall = state.hall;
     let tables = to_move(seed, tally, stops, hall);
     let next = moving(tally, ask, stops, tables);
-    if !next.refused {
-        return next;
-    }
-    let answer = next.answer;
-    State {
-        book,
-        hall,
-        answer,
-        refused: true,
-    }
+    or_back(next, book, hall)
 }
 
 // Reverses an accepted edit, from what it answered: the five tables are to be those before it.
