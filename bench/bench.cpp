@@ -1,8 +1,9 @@
 // Work out, audit and edit of the proved library beside Boost's and igraph's betweenness, in one process and on the same
 // graphs; a raise beside the delete and the insert that said the same before there was one; a list of eight edits beside the same
-// eight one by one; and the moving call on the same hall by the old numbers. Times are the least of many runs, taken in turn; ratios
-// are theirs, or those of the two edits, divided by ours, for lists the list divided by the single edits, and for the moving call its
-// time divided by that of an audit and of a work out.
+// eight one by one; and the moving call on the same hall by the old numbers. Behind them a list of routes beside an audit of the same
+// hall, and beside igraph's. Times are the least of many runs, taken in turn; ratios are theirs, or those of the two edits, divided by
+// ours, for lists the list divided by the single edits, for the moving call its time divided by that of an audit and of a work out, and
+// for a list of routes its time, with the audit that it makes, divided by that of an audit.
 #include "halls.h"
 
 #include <boost/graph/adjacency_list.hpp>
@@ -54,6 +55,20 @@ struct Igraph {
         igraph_vector_destroy(&scores);
     }
     void run() { igraph_betweenness(&graph, &scores, igraph_vss_all(), IGRAPH_DIRECTED, &weights); }
+
+    // The quickest routes from one stop to another, in the order in which they are found.
+    std::vector<std::vector<uint8_t>> routes(uint64_t from, uint64_t to) {
+        std::vector<std::vector<uint8_t>> routes;
+        igraph_vector_int_list_t paths;
+        igraph_vector_int_list_init(&paths, 0);
+        igraph_get_all_shortest_paths_dijkstra(&graph, &paths, nullptr, nullptr, from, igraph_vss_1(to), &weights, IGRAPH_OUT);
+        for (igraph_integer_t i = 0; i < igraph_vector_int_list_size(&paths); i++) {
+            igraph_vector_int_t *path = igraph_vector_int_list_get_ptr(&paths, i);
+            routes.emplace_back(VECTOR(*path), VECTOR(*path) + igraph_vector_int_size(path));
+        }
+        igraph_vector_int_list_destroy(&paths);
+        return routes;
+    }
 };
 
 static bool agrees(const Hall &h, const std::function<double(size_t)> &theirs) {
@@ -226,6 +241,40 @@ static int measure(const std::string &name, Hall h, std::mt19937 &random) {
     return same ? 0 : 1;
 }
 
+// The bytes of a list of these routes.
+static std::vector<uint8_t> list_of(std::vector<std::vector<uint8_t>> routes) {
+    std::sort(routes.begin(), routes.end());
+    std::vector<uint8_t> bytes = {uint8_t(routes.size())};
+    for (const std::vector<uint8_t> &route : routes) {
+        bytes.push_back(uint8_t(route.size()));
+        bytes.insert(bytes.end(), route.begin(), route.end());
+    }
+    return bytes;
+}
+
+// The list of the routes from the first stop to the last. Ours audits the tables and follows them; igraph's has none, and searches from
+// the first stop.
+static int measure_list(const std::string &name, Hall h) {
+    if (h.work_out() != HALL_ACCEPTED) {
+        std::printf("%-28s refused\n", name.c_str());
+        return 1;
+    }
+    Igraph igraph(h);
+    std::vector<uint8_t> buffer(HALL_LONGEST_ROUTE_LIST);
+    hall_written w = {};
+    double list = 1e300, audit = 1e300, theirs = 1e300;
+    for (int round = 0; round < 20; round++) {
+        list = std::min(list, least_time(50, [&] { w = h.list_routes(0, h.n - 1, buffer); }));
+        audit = std::min(audit, least_time(50, [&] { h.audit(); }));
+        theirs = std::min(theirs, least_time(10, [&] { igraph.routes(0, h.n - 1); }));
+    }
+    buffer.resize(w.length);
+    bool same = w.refusal == HALL_ACCEPTED && buffer == list_of(igraph.routes(0, h.n - 1));
+    std::printf("%-28s %5zu %6d %6zu | %8.1f %8.1f %6.2f | %6.2f | %s\n", name.c_str(), links_of(h).size(), buffer.empty() ? 0 : buffer[0],
+                buffer.size(), audit, list, list / audit, theirs / list, same ? "agree" : "DIFFER");
+    return same ? 0 : 1;
+}
+
 // One line a link, for the comparison with NetworkX.
 static void write_links(const char *path, const Hall &h) {
     std::FILE *f = std::fopen(path, "w");
@@ -252,5 +301,13 @@ int main(int argc, char **argv) {
     bad += measure("8 x 8 two-way grid", grid(8, random), random);
     bad += measure("64 stops, ring and bypasses", ring(64, random), random);
     bad += measure("16 stops, random", random_hall(16, 40, random), random);
+
+    std::printf("\n%-28s %5s %6s %6s | %8s %8s %6s | %6s |\n", "routes, first to last stop", "links", "routes", "bytes", "audit", "list",
+                "list", "igraph");
+    std::printf("%-28s %5s %6s %6s | %8s %8s %6s | %6s |\n", "", "", "", "", "us", "us", "/audit", "/ list");
+    bad += measure_list("line of 64 stops", line(64));
+    bad += measure_list("12 ways at its beginning", twelve_ways(64, 0));
+    bad += measure_list("12 ways at its end", twelve_ways(64, 56));
+    bad += measure_list("at its beginning, all links", all_links(twelve_ways(64, 0)));
     return bad ? 1 : 0;
 }

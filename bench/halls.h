@@ -54,6 +54,10 @@ struct Hall {
         hall_tables t = tables();
         return hall_edit_list(n, list.data(), list.size(), HALL_TABLES(t));
     }
+    hall_written list_routes(uint64_t from, uint64_t to, std::vector<uint8_t> &buffer) {
+        hall_tables t = tables();
+        return hall_list_routes(n, from, to, HALL_TABLES(t), buffer.data(), buffer.size());
+    }
 };
 
 struct Link {
@@ -115,5 +119,26 @@ inline Hall ring(uint64_t n, std::mt19937 &random) {
     std::uniform_int_distribution<uint32_t> cost(100, 200);
     for (uint64_t u = 0; u < n; u++) h.cost[u * n + (u + 1) % n] = cost(random);
     for (uint64_t u = 0; u < n; u += 8) h.cost[u * n + (u + 5) % n] = 4 * cost(random);
+    return h;
+}
+
+inline Hall line(uint64_t n) {
+    Hall h(n);
+    for (uint64_t u = 0; u + 1 < n; u++) h.cost[u * n + u + 1] = 1;
+    return h;
+}
+
+// A line with four links past a stop, from stop `at` on: 2 times 2 times 3 quickest routes. No 12 routes have a longer list.
+inline Hall twelve_ways(uint64_t n, uint64_t at) {
+    Hall h = line(n);
+    for (uint64_t u : {at, at + 2, at + 4, at + 5}) h.cost[u * n + u + 2] = 2;
+    return h;
+}
+
+// The same hall with all links that it has not, so slow that they leave its routes from the first stop to the last as they are.
+inline Hall all_links(Hall h) {
+    for (uint64_t u = 0; u < h.n; u++)
+        for (uint64_t v = 0; v < h.n; v++)
+            if (u != v && !h.cost[u * h.n + v]) h.cost[u * h.n + v] = HALL_LARGEST_COST;
     return h;
 }

@@ -1,6 +1,6 @@
-/* A small hall from a C host: built, edited, scored, written as an image and read back, with refusals shown, edits reversed and a
- * shift changed in one go; then one that an older release left, moved over, and a line of 64 stops. What it prints stands in
- * example.out. */
+/* A small hall from a C host: built, edited, scored, its routes listed, written as an image and read back, with refusals shown, edits
+ * reversed and a shift changed in one go; then one that an older release left, moved over, and a line of 64 stops. What it prints
+ * stands in example.out. */
 #include "hall.h"
 
 #include <inttypes.h>
@@ -110,6 +110,11 @@ static inline hall_listed edit_list(const hall_tables *t, const hall_edit *list,
     return hall_edit_list(t->n, list, edits, HALL_TABLES(*t));
 }
 
+static inline hall_written list_routes(const hall_tables *t, uint64_t from, uint64_t to, uint8_t *buffer, size_t length)
+{
+    return hall_list_routes(t->n, from, to, HALL_TABLES(*t), buffer, length);
+}
+
 static inline hall_written image_write(const hall_tables *t, uint8_t *buffer, size_t length)
 {
     return hall_image_write(t->n, HALL_TABLES(*t), buffer, length);
@@ -140,9 +145,49 @@ static void print_list(const char *what, hall_listed l)
            l.place, l.rows, l.touched);
 }
 
+/* A list of routes, a line for each. */
+static void print_routes(const char *what, hall_written w, const uint8_t *list)
+{
+    const uint8_t *route = list + 1;
+    int left, i;
+
+    printf("%s: %" PRIu32 " %s, %" PRIu64 " bytes\n", what, w.refusal, words(w.refusal), w.length);
+    if (w.refusal != HALL_ACCEPTED)
+        return;
+    if (list[0] == 0)
+        printf("  no route\n");
+    for (left = list[0]; left > 0; left--, route += 1 + route[0]) {
+        printf("  route");
+        for (i = 1; i <= route[0]; i++)
+            printf(" %d", route[i]);
+        printf("\n");
+    }
+}
+
 static void print_call(const char *what, uint32_t refusal)
 {
     printf("%s: %" PRIu32 " %s\n", what, refusal, words(refusal));
+}
+
+/* Which ways do the racks take from 0 to 3? From a stop to itself there is one route, from 3 to 0 none, and a stop 4 there is not.
+ * Says whether there are as many routes from 0 to 3 as the ways table has. */
+static int routes_shown(const hall_tables *hall)
+{
+    uint8_t list[HALL_LONGEST_ROUTE_LIST];
+    hall_written w = list_routes(hall, 0, 3, list, sizeof list);
+    int same;
+
+    print_routes("routes 0 3", w, list);
+    /* Refused: the list has a byte more. What the buffer held is still there. */
+    print_routes("routes 0 3, short buffer", list_routes(hall, 0, 3, list, w.length - 1), list);
+    same = list[0] == hall->ways[0 * hall->n + 3];
+    w = list_routes(hall, 2, 2, list, sizeof list);
+    print_routes("routes 2 2", w, list);
+    w = list_routes(hall, 3, 0, list, sizeof list);
+    print_routes("routes 3 0", w, list);
+    w = list_routes(hall, 0, 4, list, sizeof list);
+    print_routes("routes 0 4", w, list);
+    return same;
 }
 
 /* The belt from 2 to 3 runs slower. First refused: the cost is not above the present one. */
@@ -226,13 +271,13 @@ static int kept_as_image(const hall_tables *hall, const hall_tables *copy)
     return same;
 }
 
-/* Says whether the hall that was read back is the one that was written, edits that were reversed and a shift left nothing behind,
- * and the edited tables pass the audit. */
+/* Says whether the list of routes is as long as the ways table has it, the hall that was read back is the one that was written, edits
+ * that were reversed and a shift left nothing behind, and the edited tables pass the audit. */
 static int small_hall(void)
 {
     hall_tables hall = make_tables(4), copy = make_tables(4);
     uint32_t refusal;
-    int same, back, shifts;
+    int routes, same, back, shifts;
 
     print_call("empty hall", empty(&hall));
     print_edit("insert 0 1 5", insert(&hall, 0, 1, 5));
@@ -240,6 +285,7 @@ static int small_hall(void)
     print_edit("insert 1 3 5", insert(&hall, 1, 3, 5));
     print_edit("insert 2 3 5", insert(&hall, 2, 3, 5));
     print_scores(&hall);
+    routes = routes_shown(&hall);
 
     /* Refused: the link costs 5 already. Nothing has changed. */
     print_edit("cheapen 2 3 5", cheapen(&hall, 2, 3, 5));
@@ -258,7 +304,7 @@ static int small_hall(void)
     print_call("audit", refusal);
     free_tables(hall);
     free_tables(copy);
-    return same && back && shifts && refusal == HALL_ACCEPTED;
+    return routes && same && back && shifts && refusal == HALL_ACCEPTED;
 }
 
 /* The tables that an older release left of the hall above before its first cheapen: two ways from 0 to 3. Shares and scores are by

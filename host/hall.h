@@ -9,8 +9,9 @@
  * score is its share of the quickest routes between all other stops, times
  * HALL_SCALE, which makes it a whole number. No score passes 108,274,320, so
  * that it fits 32 bits. The calls below fill five tables of a hall, keep them
- * right through edits of its links, and turn its links into bytes, an image,
- * and back. One call moves tables of an older scale over to this one.
+ * right through edits of its links, list the quickest routes between two stops,
+ * and turn the links into bytes, an image, and back. One call moves tables of
+ * an older scale over to this one.
  *
  *
  * LINKING
@@ -25,8 +26,9 @@
  * nothing back and leaves errno alone.
  *
  * A call needs at most HALL_STACK bytes of stack, 96 KiB. Measured: image read
- * 83 KiB, work out 69 KiB, a list of edits 5 KiB, all others below 4 KiB; the
- * rest is a margin, for the dynamic linker at the first call among others.
+ * 83 KiB, work out 69 KiB, a list of routes 22 KiB, a list of edits 5 KiB, all
+ * others below 4 KiB; the rest is a margin, for the dynamic linker at the first
+ * call among others.
  *
  * The library is proved; that this header fits it is not. `make -C host check`
  * tries it. The two go together: compile a host anew for another release of
@@ -98,7 +100,8 @@
  *                             table is not one that work out accepts, or the
  *                             other four are not what it would fill; in
  *                             hall_move_over, by the old numbers
- *    4  HALL_BAD_STOP         a stop is n or more, or both are the same
+ *    4  HALL_BAD_STOP         a stop is n or more, or both are the same; in
+ *                             hall_list_routes they may be the same
  *    5  HALL_BAD_COST         a cost is 0 or above 65,535; in work out, an
  *                             entry above 65,535 or a diagonal entry other
  *                             than 0
@@ -107,7 +110,8 @@
  *    8  HALL_COST_WRONG_SIDE  cheapen to a cost not below the present one, or
  *                             raise to one not above it
  *    9  HALL_BAD_IMAGE        the bytes are no image of a hall of n stops
- *   10  HALL_SHORT_BUFFER     the image buffer is too short
+ *   10  HALL_SHORT_BUFFER     the buffer is too short for the image or for the
+ *                             list of routes
  *   11  HALL_TOO_MANY_WAYS    the hall would have a pair with more than 12
  *                             ways; in hall_move_over, it has one
  *   12  HALL_LIST_TOO_LONG    a list has more than 32 edits
@@ -134,8 +138,9 @@
  *    shares and scores by HALL_SCALE.
  *
  * Until step 3 each call of this library that looks at the tables (audit, the
- * edits, a list of edits, image write) answers 3. If every share is 0, old and
- * new tables are the same: all calls take them, and moving changes nothing.
+ * edits, a list of edits, a list of routes, image write) answers 3. If every
+ * share is 0, old and new tables are the same: all calls take them, and moving
+ * changes nothing.
  *
  * Refused with 11: go on with the old library, which can still edit the hall.
  * Once no entry of the ways table is above 12, move again.
@@ -163,14 +168,15 @@ extern "C" {
 #endif
 
 /* The limits, each as wide as what it is compared with or multiplied into. */
-#define HALL_STOPS UINT64_C(64)             /* most stops */
-#define HALL_LARGEST_COST UINT32_C(65535)   /* of a link */
-#define HALL_WAYS UINT32_C(12)              /* most quickest routes of a pair */
-#define HALL_EDITS UINT64_C(32)             /* most edits of a list */
-#define HALL_MARK UINT32_C(4294967295)      /* the time where there is no route */
-#define HALL_SCALE UINT64_C(27720)          /* one route, in a share or a score */
-#define HALL_LONGEST_IMAGE UINT64_C(16136)  /* bytes: 8, and 4 for each link */
-#define HALL_STACK UINT64_C(98304)          /* bytes of stack for any call */
+#define HALL_STOPS UINT64_C(64)               /* most stops */
+#define HALL_LARGEST_COST UINT32_C(65535)     /* of a link */
+#define HALL_WAYS UINT32_C(12)                /* most quickest routes of a pair */
+#define HALL_EDITS UINT64_C(32)               /* most edits of a list */
+#define HALL_MARK UINT32_C(4294967295)        /* the time where there is no route */
+#define HALL_SCALE UINT64_C(27720)            /* one route, in a share or a score */
+#define HALL_LONGEST_IMAGE UINT64_C(16136)    /* bytes: 8, and 4 for each link */
+#define HALL_LONGEST_ROUTE_LIST UINT64_C(781) /* bytes: 1, and 65 for each route */
+#define HALL_STACK UINT64_C(98304)            /* bytes of stack for any call */
 
 /* The old numbers, for hall_move_over alone. */
 #define HALL_OLD_WAYS UINT32_C(22)
@@ -251,9 +257,9 @@ typedef struct {
     uint32_t rows;
 } hall_listed;
 
-/* An image write's answer: its refusal, and the length of the image, 0 if
- * refused. Between the two lie 4 bytes of padding with unspecified content:
- * compare the fields, not the bytes. */
+/* The answer of a call that writes to a buffer: its refusal, and the number of
+ * bytes written, 0 if refused. Between the two lie 4 bytes of padding with
+ * unspecified content: compare the fields, not the bytes. */
 typedef struct {
     uint32_t refusal;
     uint64_t length;
@@ -389,6 +395,41 @@ static inline hall_listed hall_edit_list(uint64_t n, const hall_edit *list, size
                              cost, cost_length, time, time_length, ways, ways_length,
                              share, share_length, score, score_length);
 }
+
+/* Audits the tables and writes the quickest routes from one stop to another to
+ * a buffer: one byte with their number, and then each route as one byte with
+ * the number of its stops and the stops, a byte each, first stop first. The
+ * routes stand in order of their stop numbers, compared from the front; each
+ * stands there once. From a stop to itself there is one route of one stop, so
+ * that the bytes are 1, 1 and the stop; without a route there is one byte, 0.
+ *
+ * HALL_LONGEST_ROUTE_LIST bytes are enough for every list: the number, and at
+ * most 12 routes of at most 64 stops, each behind a byte. (12 routes cannot all
+ * pass all stops: by a search of all cases, which is no proof, the longest list
+ * has 761 bytes.) A shorter buffer will do if the list fits, and in a longer one
+ * the bytes past the list stay. Refusals 1, 2, 3, 4, 10.
+ *
+ * To go through a list, with t a hall_tables:
+ *
+ *   uint8_t list[HALL_LONGEST_ROUTE_LIST];
+ *   hall_written w = hall_list_routes(t.n, from, to, HALL_TABLES(t),
+ *                                     list, sizeof list);
+ *
+ *   if (w.refusal == HALL_ACCEPTED) {
+ *       const uint8_t *route = list + 1;
+ *
+ *       for (int left = list[0]; left > 0; left--, route += 1 + route[0])
+ *           for (int i = 1; i <= route[0]; i++)
+ *               pass(route[i]);
+ *   }
+ */
+hall_written hall_list_routes(uint64_t n, uint64_t from, uint64_t to,
+                              const uint32_t *cost, size_t cost_length,
+                              const uint32_t *time, size_t time_length,
+                              const uint32_t *ways, size_t ways_length,
+                              const uint64_t *share, size_t share_length,
+                              const uint64_t *score, size_t score_length,
+                              uint8_t *buffer, size_t buffer_length);
 
 /* Audits the tables and writes the hall's links to a buffer: 4 bytes for each
  * and 8 more, at most HALL_LONGEST_IMAGE. The buffer may be longer; its bytes

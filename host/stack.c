@@ -10,7 +10,7 @@ enum { N = 64, CELLS = N * N, ROOM = 1 << 20, UNUSED = 0xa5 };
 
 static uint32_t cost[CELLS], time[CELLS], ways[CELLS];
 static uint64_t share[CELLS], score[N];
-static uint8_t image[HALL_LONGEST_IMAGE];
+static uint8_t image[HALL_LONGEST_IMAGE], routes[HALL_LONGEST_ROUTE_LIST];
 static hall_tables t = {N, cost, time, ways, share, score};
 static size_t image_length;
 
@@ -28,6 +28,7 @@ static void raise_cost(void) { answer = hall_raise(N, 0, 1, 10, HALL_TABLES(t)).
 static void delete_link(void) { answer = hall_delete(N, 0, 1, HALL_TABLES(t)).refusal; }
 static hall_edit list[2] = {{HALL_INSERT, 1, 0, 10}, {HALL_DELETE, 0, 1, 0}};
 static void edit_list(void) { answer = hall_edit_list(N, list, 2, HALL_TABLES(t)).refusal; }
+static void list_routes(void) { answer = hall_list_routes(N, N - 1, 0, HALL_TABLES(t), routes, sizeof routes).refusal; }
 static void image_read(void) { answer = hall_image_read(N, image, image_length, HALL_TABLES(t)); }
 static void image_check(void) { answer = hall_image_check(image, image_length, N); }
 
@@ -74,6 +75,18 @@ static void lay(uint64_t between, uint32_t direct)
     cost[1] = direct;
 }
 
+/* A line from the last stop down to 0, whose first stop has links to the next 12. A list of routes takes the one to the nearest of
+ * them last, and goes from there over all stops. None goes deeper: a level for each stop of the route in hand, and one for each link
+ * that was taken before at one of them, of which each has given a route. */
+static void lay_line(void)
+{
+    memset(cost, 0, sizeof cost);
+    for (uint64_t v = 0; v + 1 < N; v++)
+        cost[(v + 1) * N + v] = 1;
+    for (uint32_t past = 2; past <= HALL_WAYS; past++)
+        cost[(N - 1) * N + N - 1 - past] = past;
+}
+
 /* The tables as the old numbers would have them. */
 static void make_old(void)
 {
@@ -109,5 +122,8 @@ int main(void)
     make_old();
     good &= fits("move over", move_over, HALL_ACCEPTED);
     good &= fits("move over", move_over, HALL_BAD_TABLES);
+    lay_line();
+    good &= fits("work out", work_out, HALL_ACCEPTED);
+    good &= fits("list routes", list_routes, HALL_ACCEPTED);
     return !good;
 }

@@ -1,5 +1,5 @@
 /* What hall.h says of the archive, and no proof covers, tried: widths and layout, the name of each refusal, the order of the
- * arguments, NULL with length 0, old tables moved over, the longest image. Prints what does not hold. */
+ * arguments, NULL with length 0, lists of routes, old tables moved over, the longest image. Prints what does not hold. */
 #include "hall.h"
 
 #include <stdio.h>
@@ -13,9 +13,12 @@ _Static_assert(sizeof HALL_SCALE == sizeof(uint64_t) && sizeof HALL_STOPS == siz
 _Static_assert(sizeof HALL_OLD_SCALE == sizeof(uint64_t) && sizeof HALL_OLD_WAYS == sizeof(uint32_t), "as wide as a score, as ways");
 _Static_assert(sizeof HALL_MARK == sizeof(uint32_t) && sizeof HALL_WAYS == sizeof(uint32_t), "as wide as an entry");
 _Static_assert(sizeof HALL_LARGEST_COST == sizeof(uint32_t), "as wide as an entry");
+_Static_assert(HALL_LONGEST_ROUTE_LIST == 1 + HALL_WAYS * (1 + HALL_STOPS), "the number of routes, and for each its length and its stops");
+_Static_assert(HALL_WAYS <= UINT8_MAX && HALL_STOPS <= UINT8_MAX, "each of these is a byte");
+_Static_assert(sizeof HALL_LONGEST_ROUTE_LIST == sizeof(uint64_t), "as wide as a length");
 
-/* An edit's answer and a list's in memory, an image write's in two registers, as the archive returns them; an edit of a list as it
- * is read. */
+/* An edit's answer and a list's in memory, that of a call that writes in two registers, as the archive returns them; an edit of a
+ * list as it is read. */
 _Static_assert(sizeof(hall_edited) == 24 && offsetof(hall_edited, rows) == 4, "layout, with 4 bytes of padding");
 _Static_assert(offsetof(hall_edited, touched) == 8 && offsetof(hall_edited, before) == 16, "layout");
 _Static_assert(sizeof(hall_listed) == 24 && offsetof(hall_listed, place) == 4, "layout, with 4 bytes of padding");
@@ -64,12 +67,14 @@ static void null_is_empty(void)
         HOLDS(hall_delete(n, 0, 1, NONE).refusal == expected);
         HOLDS(hall_edit_list(n, NULL, 0, NONE).refusal == expected);
         HOLDS(hall_edit_numbers(n, NULL, 0, NONE).refusal == expected);
+        HOLDS(hall_list_routes(n, 0, 0, NONE, NULL, 0).refusal == expected);
         HOLDS(hall_image_write(n, NONE, NULL, 0).refusal == expected);
         HOLDS(hall_image_read(n, NULL, 0, NONE) == expected);
         HOLDS(hall_image_check(NULL, 0, n) == (n == 0 ? HALL_BAD_SIZE : HALL_BAD_IMAGE));
     }
     HOLDS(hall_empty(t.n, HALL_TABLES(t)) == HALL_ACCEPTED);
     HOLDS(hall_edit_list(t.n, NULL, 0, HALL_TABLES(t)).refusal == HALL_ACCEPTED);
+    HOLDS(hall_list_routes(t.n, 0, 1, HALL_TABLES(t), NULL, 0).refusal == HALL_SHORT_BUFFER);
     HOLDS(hall_image_write(t.n, HALL_TABLES(t), NULL, 0).refusal == HALL_SHORT_BUFFER);
     HOLDS(hall_image_read(t.n, NULL, 0, HALL_TABLES(t)) == HALL_BAD_IMAGE);
 }
@@ -259,6 +264,117 @@ static void listed(void)
     HOLDS(answers(hall_edit_list(4, list, 33, HALL_TABLES(t)), HALL_BAD_TABLES, 0, 0, 0));
 }
 
+/* Lists into `room` bytes of the buffer, all of which hold 0xa5 before. What the call answers, or HALL_NO_KIND if a table has changed,
+ * or a byte past the list, or if refused any byte, or if the length is not 0 then. */
+static hall_written list_into(size_t room, hall_tables t, uint64_t n, uint64_t from, uint64_t to)
+{
+    hall_written w;
+
+    keep();
+    memset(buffer, 0xa5, sizeof buffer);
+    w = hall_list_routes(n, from, to, HALL_TABLES(t), buffer, room);
+    if (!as_kept() || w.length > room || (w.refusal != HALL_ACCEPTED && w.length != 0))
+        w.refusal = HALL_NO_KIND;
+    for (size_t i = w.length; i < sizeof buffer; i++)
+        if (buffer[i] != 0xa5)
+            w.refusal = HALL_NO_KIND;
+    return w;
+}
+
+/* Whether the list is accepted and these are its bytes, also where the buffer has no byte more, and one less is refused with 10. */
+static int lists(hall_tables t, uint64_t from, uint64_t to, const char *bytes, size_t length)
+{
+    hall_written w = list_into(sizeof buffer, t, t.n, from, to);
+    int good = w.refusal == HALL_ACCEPTED && w.length == length && !memcmp(buffer, bytes, length);
+
+    w = list_into(length, t, t.n, from, to);
+    good &= w.refusal == HALL_ACCEPTED && w.length == length && !memcmp(buffer, bytes, length);
+    return good && list_into(length - 1, t, t.n, from, to).refusal == HALL_SHORT_BUFFER;
+}
+
+/* Two ways from 3 to 0, over 1 and over 4 and 2, and a slower one over 2 alone: the list of them, of a part, of a stop, of none; and
+ * the refusals in their order. */
+static void routes_listed(void)
+{
+    hall_tables t = tables_of(5), other = tables_of(4);
+
+    memset(cost, 0, sizeof cost);
+    cost[3 * 5 + 1] = cost[1 * 5 + 0] = 6;
+    cost[3 * 5 + 4] = cost[4 * 5 + 2] = cost[2 * 5 + 0] = 4;
+    cost[3 * 5 + 2] = 9;
+    HOLDS(hall_work_out(5, HALL_TABLES(t)) == HALL_ACCEPTED && ways[3 * 5 + 0] == 2);
+    HOLDS(lists(t, 3, 0, "\2\3\3\1\0\4\3\4\2\0", 10));
+    HOLDS(lists(t, 4, 0, "\1\3\4\2\0", 5));
+    HOLDS(lists(t, 3, 1, "\1\2\3\1", 4));
+    HOLDS(lists(t, 3, 3, "\1\1\3", 3) && lists(t, 0, 0, "\1\1\0", 3));
+    HOLDS(lists(t, 0, 3, "\0", 1) && lists(t, 1, 2, "\0", 1));
+    /* a stop of n or more comes before a buffer that is too short, also one that 32 bits or a byte would take for another */
+    HOLDS(list_into(0, t, 5, 5, 0).refusal == HALL_BAD_STOP && list_into(0, t, 5, 0, 5).refusal == HALL_BAD_STOP);
+    HOLDS(list_into(9, t, 5, 3 + 256, 0).refusal == HALL_BAD_STOP && list_into(9, t, 5, 3, 256).refusal == HALL_BAD_STOP);
+    HOLDS(list_into(9, t, 5, 3, UINT64_C(1) << 32).refusal == HALL_BAD_STOP);
+    HOLDS(list_into(9, t, 5, UINT64_MAX, UINT64_MAX).refusal == HALL_BAD_STOP);
+    HOLDS(list_into(0, t, 5, 3, 0).refusal == HALL_SHORT_BUFFER && list_into(0, t, 5, 0, 3).refusal == HALL_SHORT_BUFFER);
+    ways[3 * 5 + 0]++;
+    HOLDS(list_into(0, t, 5, 5, 5).refusal == HALL_BAD_TABLES);
+    HOLDS(list_into(0, other, 5, 5, 5).refusal == HALL_BAD_LENGTH && list_into(0, other, 0, 5, 5).refusal == HALL_BAD_SIZE);
+    HOLDS(list_into(0, other, HALL_STOPS + 1, 5, 5).refusal == HALL_BAD_SIZE);
+}
+
+/* 12 ways over a stop each are listed in order of that stop. */
+static void twelve_listed(void)
+{
+    hall_tables t = tables_of(2 + HALL_WAYS);
+    char bytes[1 + 12 * 4] = {12};
+
+    memset(cost, 0, sizeof cost);
+    for (uint64_t v = 2; v < t.n; v++) {
+        cost[v] = cost[v * t.n + 1] = HALL_LARGEST_COST;
+        memcpy(bytes + 1 + 4 * (v - 2), (char[]){3, 0, (char)v, 1}, 4);
+    }
+    HOLDS(hall_work_out(t.n, HALL_TABLES(t)) == HALL_ACCEPTED);
+    HOLDS(lists(t, 0, 1, bytes, sizeof bytes));
+}
+
+/* Whether the list in the buffer ends at `length` and has quickest routes from 0 to 63, each behind the one before it. */
+static int routes_in_order(hall_tables t, size_t length)
+{
+    size_t at = 1, last = 0;
+
+    for (int left = buffer[0]; left > 0; left--) {
+        size_t stops = buffer[at];
+        uint64_t all = 0;
+
+        if (at + stops >= length || buffer[at + 1] != 0 || buffer[at + stops] != 63)
+            return 0;
+        for (size_t i = at + 1; i < at + stops; i++) {
+            if (buffer[i] >= t.n || cost[buffer[i] * t.n + buffer[i + 1]] == 0)
+                return 0;
+            all += cost[buffer[i] * t.n + buffer[i + 1]];
+        }
+        if (all != time[63] || (last != 0 && memcmp(buffer + last + 1, buffer + at + 1, stops) >= 0))
+            return 0;
+        last = at;
+        at += 1 + stops;
+    }
+    return at == length;
+}
+
+/* A line of 64 stops with links past stops 1, 3, 5 and 6, which makes 12 ways: no list is longer. */
+static void longest_list(void)
+{
+    hall_tables t = tables_of(HALL_STOPS);
+    hall_written w;
+
+    memset(cost, 0, sizeof cost);
+    for (uint64_t u = 0; u + 1 < t.n; u++)
+        cost[u * t.n + u + 1] = 1;
+    cost[0 * t.n + 2] = cost[2 * t.n + 4] = cost[4 * t.n + 6] = cost[5 * t.n + 7] = 2;
+    HOLDS(hall_work_out(t.n, HALL_TABLES(t)) == HALL_ACCEPTED);
+    HOLDS(list_into(760, t, t.n, 0, 63).refusal == HALL_SHORT_BUFFER);
+    w = list_into(761, t, t.n, 0, 63);
+    HOLDS(w.refusal == HALL_ACCEPTED && w.length == 761 && buffer[0] == HALL_WAYS && routes_in_order(t, 761));
+}
+
 /* Five tables by the old numbers, put down entry by entry: `between` ways of time 10 from 0 to 1, each over one stop. */
 static hall_tables old_hall(uint64_t between)
 {
@@ -293,13 +409,14 @@ static uint32_t move(uint64_t n, hall_tables t)
     return refusal == HALL_ACCEPTED || as_kept() ? refusal : (uint32_t)HALL_NO_KIND;
 }
 
-/* 12 ways by the old numbers move over once, and are then those of a work out; until then an edit refuses them. */
+/* 12 ways by the old numbers move over once, and are then those of a work out; until then an edit refuses them, and a list of routes. */
 static void moved(void)
 {
     hall_tables t = old_hall(12);
 
     HOLDS(share[2] == 19399380 && hall_audit(t.n, HALL_TABLES(t)) == HALL_BAD_TABLES);
     HOLDS(hall_delete(t.n, 0, 2, HALL_TABLES(t)).refusal == HALL_BAD_TABLES);
+    HOLDS(list_into(sizeof buffer, t, t.n, 0, 1).refusal == HALL_BAD_TABLES);
     HOLDS(move(t.n, t) == HALL_ACCEPTED && share[2] == 2310 && score[2] == 2310 && score[13] == 2310);
     HOLDS(hall_audit(t.n, HALL_TABLES(t)) == HALL_ACCEPTED);
     HOLDS(move(t.n, t) == HALL_BAD_TABLES);
@@ -391,6 +508,9 @@ int main(void)
     ways_in_16_bits();
     reversed();
     listed();
+    routes_listed();
+    twelve_listed();
+    longest_list();
     moved();
     not_moved();
     largest_score();

@@ -4,7 +4,7 @@ use mathlib.Core.Path.{_≡_, refl, _∙_, ap}
 use mathlib.Core.Bool.{Bool, true, false, cond}
 use mathlib.Core.List.{List, []}
 use Rattle.book.specs.Hall.{Tables}
-use Rattle.book.specs.Call.{Ask, emptyHall, audit, moveOver, workOut, edit, editList, imageWrite, imageRead, Call, accepted, Answer, refusedAt, Rule, rule, reply, refusal, answer, Done}
+use Rattle.book.specs.Call.{Ask, emptyHall, audit, moveOver, workOut, edit, editList, listRoutes, imageWrite, imageRead, Call, accepted, Answer, refusedAt, Rule, rule, reply, refusal, answer, Done}
 use Rattle.book.specs.Book.{Book, bookRefusal, bookAnswer}
 use Rattle.book.specs.declared.Refusal.{Refusal}
 use Rattle.book.specs.declared.Refusal.the-variants.{Accepted, BadSize, BadLength, BadTables, BadStop, BadCost, LinkPresent, LinkAbsent, CostWrongSide, BadImage, ShortBuffer, TooManyWays, ListTooLong}
@@ -18,6 +18,7 @@ says-accepted n moveOver cost = refl
 says-accepted n (workOut c) cost = refl
 says-accepted n (edit e) cost = refl
 says-accepted n (editList edits) cost = refl
+says-accepted n (listRoutes s t buffer) cost = refl
 says-accepted n (imageWrite buffer) cost = refl
 says-accepted n (imageRead image) cost = refl
 
@@ -49,7 +50,8 @@ book-refusal c b = reply-refusal (bookRefusal c b) (rule (c .n) (c .ask) (b .lin
 pub done-refusal : (c : Call) (t : Tables) {t′ : Tables} {a : Answer} → Done c t t′ a → a .refusal ≡ refusal c t
 done-refusal c t d = ap (λ a. a .refusal) (d .answered) ∙ answer-refusal c t
 
--- only a list tells a place, only an edit and a list name sources, only an edit tells a cost before, and only an image write writes bytes
+-- only a list of edits tells a place, only an edit and a list of edits name sources, only an edit tells a cost before, and only a route
+-- list and an image write write bytes
 abbrev pub NoSet : Answer → Type 0
 NoSet a = (a .place ≡ 0) × (a .touched ≡ 0) × (a .rows ≡ 0) × (a .before ≡ 0)
 
@@ -63,6 +65,7 @@ Parts moveOver a = NoSet a × NoBytes a
 Parts (workOut cost) a = NoSet a × NoBytes a
 Parts (edit e) a = (a .place ≡ 0) × NoBytes a
 Parts (editList edits) a = (a .before ≡ 0) × NoBytes a
+Parts (listRoutes s t buffer) a = NoSet a
 Parts (imageWrite buffer) a = NoSet a
 Parts (imageRead image) a = NoSet a × NoBytes a
 
@@ -86,6 +89,7 @@ answer-parts c t = reply-either (Parts (c .ask)) (refusal c t) (rule (c .n) (c .
     said (workOut cost) = ((refl, refl, refl, refl), (refl, refl))
     said (edit e) = (refl, (refl, refl))
     said (editList edits) = (refl, (refl, refl))
+    said (listRoutes s x buffer) = (refl, refl, refl, refl)
     said (imageWrite buffer) = (refl, refl, refl, refl)
     said (imageRead image) = ((refl, refl, refl, refl), (refl, refl))
 
@@ -96,5 +100,6 @@ answer-parts c t = reply-either (Parts (c .ask)) (refusal c t) (rule (c .n) (c .
     alone (workOut cost) = ((refl, refl, refl, refl), (refl, refl))
     alone (edit e) = (refl, (refl, refl))
     alone (editList edits) = (refl, (refl, refl))
+    alone (listRoutes s x buffer) = (refl, refl, refl, refl)
     alone (imageWrite buffer) = (refl, refl, refl, refl)
     alone (imageRead image) = ((refl, refl, refl, refl), (refl, refl))

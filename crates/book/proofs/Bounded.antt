@@ -37,7 +37,7 @@ module _ (n : ℕ) (cost : List ℕ) (h : Held n cost) where
   most : n ≤ mostStops
   most = leb-true n mostStops (and-eq-true-iff (leb 1 n) (leb n mostStops) .0 (h .size) .1)
 
-  small : n * largestCost < mark
+  pub small : n * largestCost < mark
   small = omega (arith, mul-le-mul-right largestCost most)
 
   score-bound : (v : ℕ) → getD (filled scale n cost .score) v 0 ≤ 108274320
@@ -58,7 +58,7 @@ module _ (n : ℕ) (cost : List ℕ) (h : Held n cost) where
       let fewer : n - 1 ≤ 63 = omega (arith, most) in
       omega (arith, least-bound W n s largestCost k (valid-costs n cost (h .valid) .most) small v l some, mul-le-mul-right largestCost fewer)
 
-  ways-bound : (s v : ℕ) → s < n → v < n → ways W n s v ≤ mostWays
+  pub ways-bound : (s v : ℕ) → s < n → v < n → ways W n s v ≤ mostWays
   unfolding uncrowded
   ways-bound s v k l = leb-true (ways W n s v) mostWays (all-true n _ (all-true n _ (h .few) s k) v l)
 

@@ -2,25 +2,27 @@
 -- and images written and read. Assumes nothing.
 use Prim.Native.Nat.{ℕ, zero, suc, _*_, _%_, _<_, _≤_, _∣_}
 use native.Mathlib.Nat.{dvd-of-mod-eq-zero, dvd-mul-right-of-dvd, div-mul-cancel, lt-irrefl}
-use mathlib.Core.Path.{_≡_, refl, sym, _∙_, ap}
+use mathlib.Core.Path.{_≡_, refl, _∙_, ap}
 use mathlib.Core.Logic.{_≢_}
-use mathlib.Core.Bool.{Bool, true, false, cond, _&&_, and-eq-true-iff}
+use mathlib.Core.Bool.{Bool, true, and-eq-true-iff}
 use mathlib.Core.List.{List, [], _∷_, _++_}
 use lib.Dec.{eqb, leb, lit<}
 use lib.ListN.{length, take, drop}
 use lib.Seq.{take-append-seam}
-use borrow.Author.Tests.{eqb-true, eq-eqb, ne-eqb, leb-true, le-leb}
+use borrow.Author.Tests.{eqb-true, ne-eqb, leb-true}
 use Rattle.routes.specs.Route.{Costs, allTo, ways, through, portion}
 use Rattle.routes.proofs.Sums.{all-true}
-use Rattle.book.specs.Hall.{Tables, mostStops, mostWays, scale, oldMostWays, oldScale, upTo, entry, filled, sized, validPair, validCosts, uncrowded, right, imageOf, isImage, costsOf}
-use Rattle.book.specs.Call.{Call, audit, edit, imageWrite, imageRead, accepted, costTests, withEdit, Rule, rule, Answer, refusal, after, answer}
+use Rattle.book.specs.Hall.{Tables, mostStops, mostWays, scale, oldMostWays, oldScale, upTo, entry, filled, sized, validPair, uncrowded, right, imageOf, isImage, costsOf}
+use Rattle.book.specs.Call.{Call, edit, imageWrite, imageRead, costTests, withEdit, rule, Answer, refusal, after, answer}
 use Rattle.book.proofs.Bytes.{Bytes}
-use Rattle.book.proofs.Images.{written-read, written-costs, read-written, read-valid, length-read}
+use Rattle.book.proofs.Images.{written-read, written-costs, read-written}
 use Rattle.book.proofs.Filled.{sized-filled, sized-cost, right-filled, right-true}
-use Rattle.book.proofs.Passed.{need-true, chain-true, passed, audited, edit-alone}
+use Rattle.book.proofs.Passed.{need-true, passed, edit-alone}
+use Rattle.book.proofs.Steps.{held-audited, accepted-held, accepted-filled}
+use Rattle.book.proofs.Buffers.{image-writes, write-taken, written-right, written-length, written-buffer}
 use Rattle.book.proofs.NoLinks.{valid-none, uncrowded-none}
 use Rattle.book.specs.declared.Edit.{Edit}
-use Rattle.book.specs.declared.Refusal.the-variants.{Accepted, BadStop, BadImage, TooManyWays}
+use Rattle.book.specs.declared.Refusal.the-variants.{Accepted, BadStop, BadImage}
 
 -- 1 to m divide L, tested one by one
 abbrev pub allDivide : (m L : ℕ) → Bool
@@ -54,49 +56,12 @@ one-stop e =
     rw (sized-filled scale 1 1 (0 ∷ []) refl, right-filled scale mostWays 1 (0 ∷ []) (valid-none 1) (uncrowded-none mostWays 1 (lit< tt)))
     (edit-alone e (filled scale 1 (0 ∷ []) .cost))
 
--- accepted or refused, an audit and an image write leave the tables
-pub leaves-tables : (c : Call) (t : Tables) → let r : Rule = rule (c .n) (c .ask) (t .cost) in
-    r .leaves ≡ t .cost → r .sound t ≡ right scale mostWays (c .n) t → after c t ≡ t
-unfolding after refusal
-leaves-tables c t same audits = rw same (go (accepted (refusal c t)) refl)
-  where
-    r : Rule
-    r = rule (c .n) (c .ask) (t .cost)
-
-    go : (b : Bool) → accepted (refusal c t) ≡ b → cond b (filled scale (c .n) (t .cost)) t ≡ t
-    go true e =
-        let (size, lengths, sound, tests) = chain-true (c .n) (r .fits && sized (c .n) t) (r .sound t) (r .tests) e in
-        right-true scale mostWays (c .n) t (sym audits ∙ sound) .2
-    go false e = refl
-
-pub audit-leaves : (n : ℕ) (t : Tables) → after (record { n = n; ask = audit }) t ≡ t
-unfolding rule
-audit-leaves n t = leaves-tables (record { n = n; ask = audit }) t refl refl
-
-pub write-leaves : (n : ℕ) (t : Tables) (buffer : List ℕ) → after (record { n = n; ask = imageWrite buffer }) t ≡ t
-unfolding rule
-write-leaves n t buffer = leaves-tables (record { n = n; ask = imageWrite buffer }) t refl refl
-
 -- an edit on right tables is accepted where its stops, its cost and its link fit and it crowds no pair
 pub edit-taken : (n : ℕ) (e : Edit) (t : Tables) → upTo mostStops n ≡ true → sized n t ≡ true → right scale mostWays n t ≡ true →
     validPair n (e .u) (e .v) ≡ true → costTests (e .kind) (e .cost) (entry n (t .cost) (e .u) (e .v)) Accepted ≡ Accepted →
     uncrowded mostWays n (withEdit n e (t .cost)) ≡ true → refusal (record { n = n; ask = edit e }) t ≡ Accepted
 unfolding refusal rule
 edit-taken n e t size lengths sound pair fits few = rw (size, lengths, sound, pair, few) fits
-
--- an accepted image write has right tables, and answers with their image in front of the buffer
-module _ (n : ℕ) (t : Tables) (buffer : List ℕ) (ok : refusal (record { n = n; ask = imageWrite buffer }) t ≡ Accepted) where
-  written-right : right scale mostWays n t ≡ true
-  unfolding rule
-  written-right = audited (record { n = n; ask = imageWrite buffer }) t ok
-
-  written-length : answer (record { n = n; ask = imageWrite buffer }) t .length ≡ length (imageOf n (t .cost))
-  unfolding answer rule
-  written-length = rw ok
-
-  written-buffer : answer (record { n = n; ask = imageWrite buffer }) t .buffer ≡ imageOf n (t .cost) ++ drop (length (imageOf n (t .cost))) buffer
-  unfolding answer rule
-  written-buffer = rw ok
 
 -- an image is read where no pair is crowded, and gives the tables of its costs
 module _ (n : ℕ) (t : Tables) (image : List ℕ) (size : upTo mostStops n ≡ true) (lengths : sized n t ≡ true)
@@ -115,8 +80,9 @@ pub written-back : (n : ℕ) (t t′ : Tables) (buffer : List ℕ) → refusal (
     let c : Call = record { n = n; ask = imageRead (take (a .length) (a .buffer)) } in
     (refusal c t′ ≡ Accepted) × (after c t′ ≡ t)
 written-back n t t′ buffer ok lengths =
+    let w = image-writes n t buffer in
     let (size, sizes, tests) = passed (record { n = n; ask = imageWrite buffer }) t ok in
-    let (valid, few, same) = right-true scale mostWays n t (written-right n t buffer ok) in
+    let (valid, few, same) = right-true scale mostWays n t (written-right w ok) in
     let small : n ≤ 64 = leb-true n 64 (and-eq-true-iff (leb 1 n) (leb n 64) .0 size .1) in
     let costs = written-costs n (t .cost) small valid (sized-cost n t sizes) in
     let is = written-read n (t .cost) small valid in
@@ -124,21 +90,7 @@ written-back n t t′ buffer ok lengths =
     let taken = read-taken n t′ (imageOf n (t .cost)) size lengths is free in
     let given = read-gives n t′ (imageOf n (t .cost)) size lengths is free in
     let front : take (length (imageOf n (t .cost))) (imageOf n (t .cost) ++ drop (length (imageOf n (t .cost))) buffer) ≡ imageOf n (t .cost) = take-append-seam (imageOf n (t .cost)) _ in
-    rw (written-length n t buffer ok, written-buffer n t buffer ok, front) (taken, given ∙ ap (filled scale n) costs ∙ same)
-
-read-tests : (n : ℕ) (t : Tables) (image : List ℕ) → accepted (rule n (imageRead image) (t .cost) .tests) ≡ true →
-    (isImage n image ≡ true) × (uncrowded mostWays n (costsOf n image) ≡ true)
-unfolding rule
-read-tests n t image e =
-    let (is, e₁) = need-true (isImage n image) BadImage _ refl e in
-    (is, need-true (uncrowded mostWays n (costsOf n image)) TooManyWays _ refl e₁ .0)
-
--- the tables of valid costs without a crowded pair are written where the buffer is long enough
-write-taken : (n : ℕ) (cost buffer : List ℕ) → upTo mostStops n ≡ true → length cost ≡ n * n → validCosts n cost ≡ true → uncrowded mostWays n cost ≡ true →
-    length (imageOf n cost) ≤ length buffer → refusal (record { n = n; ask = imageWrite buffer }) (filled scale n cost) ≡ Accepted
-unfolding refusal rule filled
-write-taken n cost buffer size square valid few fits =
-    rw (size, sized-filled scale n n cost square ∙ eq-eqb n n refl, right-filled scale mostWays n cost valid few, le-leb (length (imageOf n cost)) (length buffer) fits)
+    rw (written-length w ok, written-buffer w ok, front) (taken, given ∙ ap (filled scale n) costs ∙ same)
 
 -- an image that is read, written again from what it gave, gives its bytes, and the bytes past them stay
 pub read-back : (n : ℕ) (t : Tables) (image buffer : List ℕ) → Bytes image → refusal (record { n = n; ask = imageRead image }) t ≡ Accepted →
@@ -146,13 +98,13 @@ pub read-back : (n : ℕ) (t : Tables) (image buffer : List ℕ) → Bytes image
     let c : Call = record { n = n; ask = imageWrite buffer } in
     let t′ : Tables = after (record { n = n; ask = imageRead image }) t in
     (refusal c t′ ≡ Accepted) × (answer c t′ .length ≡ length image) × (answer c t′ .buffer ≡ image ++ drop (length image) buffer)
-unfolding filled
+unfolding filled rule
 read-back n t image buffer bytes ok fits =
-    let (size, lengths, tests) = passed (record { n = n; ask = imageRead image }) t ok in
-    let (is, free) = read-tests n t image tests in
+    let read : Call = record { n = n; ask = imageRead image } in
+    let (size, lengths, tests) = passed read t ok in
     let small : n ≤ 64 = leb-true n 64 (and-eq-true-iff (leb 1 n) (leb n 64) .0 size .1) in
-    let again = read-written n image small bytes is in
-    let t′ : Tables = filled scale n (costsOf n image) in
-    let taken = write-taken n (costsOf n image) buffer size (length-read n image) (read-valid n image is) free (rw again fits) in
-    rw (read-gives n t image size lengths is free)
-    (taken, written-length n t′ buffer taken ∙ ap length again, written-buffer n t′ buffer taken ∙ ap (λ l. l ++ drop (length l) buffer) again)
+    let again = read-written n image small bytes (need-true (isImage n image) BadImage _ refl tests .0) in
+    let w = image-writes n (filled scale n (costsOf n image)) buffer in
+    let taken = write-taken w (held-audited n (costsOf n image) (accepted-held read t ok)) refl (rw again fits) in
+    rw (accepted-filled read t ok)
+    (taken, written-length w taken ∙ ap length again, written-buffer w taken ∙ ap (λ l. l ++ drop (length l) buffer) again)

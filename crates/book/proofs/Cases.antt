@@ -1,13 +1,13 @@
--- Document 01's halls P1 to P8 and halls with slower links: one table of cases, and one theorem over the definitions that covers it.
--- Assumes nothing.
+-- Document 01's halls P1 to P8 and halls with slower links: one table of cases, and one theorem over the definitions that covers it; and
+-- route lists worked out by hand. Assumes nothing.
 use Prim.Native.Nat.{ℕ, _+_, _*_, _-_, _/_, _%_, _^_}
 use mathlib.Core.Path.{_≡_, refl}
 use mathlib.Core.Bool.{Bool, true, false, _&&_}
 use mathlib.Core.List.{List, [], _∷_, _++_, map}
 use lib.ListN.{replicate, drop}
 use lib.Dec.{eqb, ltb}
-use Rattle.routes.specs.Route.{mark, sumTo, joinTo, listTo, allTo, same, setOf, count, visits, uses, time, least, extend, hops, routes, leastTime, quickest, ways, through, portion, share, used, score}
-use Rattle.book.specs.Hall.{Tables, mostStops, largestCost, mostWays, scale, oldMostWays, oldScale, oldPerNew, filled, sized, validCosts, uncrowded, right, touched, lowFirst, field, imageOf, validRecord, isImage, costsOf}
+use Rattle.routes.specs.Route.{mark, sumTo, joinTo, listTo, allTo, same, setOf, count, chosen, ahead, among, inOrder, visits, uses, time, least, extend, hops, routes, leastTime, quickest, ways, quickestRoutes, through, portion, share, used, score}
+use Rattle.book.specs.Hall.{Tables, mostStops, largestCost, mostWays, scale, oldMostWays, oldScale, oldPerNew, filled, sized, validCosts, uncrowded, right, touched, routeBytes, routeList, lowFirst, field, imageOf, validRecord, isImage, costsOf}
 use Rattle.book.specs.Call.{Call, Ask, emptyHall, audit, workOut, edit, editList, number, run, touchedBy, judged, rule, Answer, refusal, after, answer, reversal}
 use Rattle.book.specs.Book.{Step, kept, noLinks, bookRefusal, bookAfter, bookAnswer, bookAnswers}
 use Rattle.book.proofs.Calls.{allDivide}
@@ -93,6 +93,15 @@ uneven = 0 ∷ 5 ∷ 5 ∷ 0 ∷ 0 ∷ 0 ∷ 0 ∷ 5 ∷ 0 ∷ 0 ∷ 0 ∷ 4 ∷
 
 abbrev pub ties : List ℕ
 ties = 0 ∷ 0 ∷ 5 ∷ 10 ∷ 0 ∷ 0 ∷ 0 ∷ 3 ∷ 0 ∷ 3 ∷ 0 ∷ 5 ∷ 0 ∷ 0 ∷ 0 ∷ 0 ∷ []
+
+-- route lists worked out by hand: in the hall of P1 two routes, a stop to itself, and no route; and with five stops five routes of time 5,
+-- whose order is neither that from the back nor one by length, beside a slower link
+pub lists-worked :
+    let five : List ℕ = 0 ∷ 1 ∷ 3 ∷ 2 ∷ 6 ∷ 0 ∷ 0 ∷ 0 ∷ 1 ∷ 0 ∷ 0 ∷ 0 ∷ 0 ∷ 0 ∷ 2 ∷ 0 ∷ 0 ∷ 1 ∷ 0 ∷ 3 ∷ 0 ∷ 0 ∷ 0 ∷ 0 ∷ 0 ∷ [] in
+    (routeList 4 even 0 3 ≡ 2 ∷ 3 ∷ 0 ∷ 1 ∷ 3 ∷ 3 ∷ 0 ∷ 2 ∷ 3 ∷ []) × (routeList 4 even 2 2 ≡ 1 ∷ 1 ∷ 2 ∷ []) × (routeList 4 even 3 0 ≡ 0 ∷ []) ×
+    (routeList 5 five 0 4 ≡ 5 ∷ 5 ∷ 0 ∷ 1 ∷ 3 ∷ 2 ∷ 4 ∷ 4 ∷ 0 ∷ 1 ∷ 3 ∷ 4 ∷ 3 ∷ 0 ∷ 2 ∷ 4 ∷ 4 ∷ 0 ∷ 3 ∷ 2 ∷ 4 ∷ 3 ∷ 0 ∷ 3 ∷ 4 ∷ [])
+unfolding joinTo chosen ahead among inOrder visits time least extend hops routes leastTime quickestRoutes routeBytes routeList
+lists-worked = (refl, refl, refl, refl)
 
 abbrev pub cases : List Case
 cases =

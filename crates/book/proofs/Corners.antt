@@ -6,9 +6,9 @@ use mathlib.Core.Bool.{Bool, true, _&&_, _||_}
 use mathlib.Core.List.{List, [], _∷_, _++_, map}
 use lib.ListN.{replicate, take, drop}
 use lib.Dec.{eqb}
-use Rattle.routes.specs.Route.{mark, sumTo, joinTo, listTo, allTo, same, setOf, count, visits, uses, time, least, extend, hops, routes, leastTime, quickest, ways, through, portion, share, used, score}
-use Rattle.book.specs.Hall.{Tables, scale, oldScale, filled, sized, validCosts, uncrowded, right, touched, lowFirst, field, imageOf, validRecord, isImage, costsOf}
-use Rattle.book.specs.Call.{Call, Ask, emptyHall, audit, moveOver, workOut, editList, imageWrite, imageRead, number, run, touchedBy, judged, rule, Answer, refusal, after, answer, imageCheck}
+use Rattle.routes.specs.Route.{mark, sumTo, joinTo, listTo, allTo, same, setOf, count, chosen, ahead, among, inOrder, visits, uses, time, least, extend, hops, routes, leastTime, quickest, ways, quickestRoutes, through, portion, share, used, score}
+use Rattle.book.specs.Hall.{Tables, scale, oldScale, filled, sized, validCosts, uncrowded, right, touched, routeBytes, routeList, lowFirst, field, imageOf, validRecord, isImage, costsOf}
+use Rattle.book.specs.Call.{Call, Ask, emptyHall, audit, moveOver, workOut, editList, listRoutes, imageWrite, imageRead, number, run, touchedBy, judged, rule, Answer, refusal, after, answer, imageCheck}
 use Rattle.book.specs.Book.{noLinks, bookRefusal, bookAfter, bookAnswer, bookAnswers}
 use Rattle.book.proofs.Refused.{bufferOf}
 use Rattle.book.proofs.Cases.{editOf, change}
@@ -122,6 +122,11 @@ corners =
     corner 3 line (editList []) 0 ∷ corner 0 line (editList []) 1 ∷ corner 3 short (editList []) 2 ∷ corner 3 damaged (editList (replicate 33 nowhere)) 3 ∷
     corner 3 line (editList (replicate 33 nowhere)) 12 ∷ corner 3 line (editList (replicate 32 nowhere)) 4 ∷
     corner 3 line (editList (editOf Delete 0 1 0 ∷ editOf Raise 0 1 2 ∷ [])) 7 ∷ corner 3 line (editList (editOf Delete 0 1 0 ∷ editOf Insert 0 1 2 ∷ [])) 0 ∷
+    -- route list: a buffer that fits, one byte short; a stop to itself; no route, which takes a byte; a stop of n before the buffer, tables
+    -- before both, and lengths and n before those
+    corner 3 line (listRoutes 0 2 (replicate 5 7)) 0 ∷ corner 3 line (listRoutes 0 2 (replicate 4 7)) 10 ∷ corner 3 line (listRoutes 1 1 (replicate 3 7)) 0 ∷
+    corner 3 line (listRoutes 2 0 (7 ∷ [])) 0 ∷ corner 3 line (listRoutes 2 0 []) 10 ∷ corner 3 line (listRoutes 3 0 (replicate 5 7)) 4 ∷ corner 3 line (listRoutes 0 3 []) 4 ∷
+    corner 3 damaged (listRoutes 3 3 []) 3 ∷ corner 3 short (listRoutes 3 3 []) 2 ∷ corner 0 line (listRoutes 3 3 []) 1 ∷
     -- image write: a buffer that fits, one byte short, and tables that do not belong to their hall
     corner 3 line (imageWrite (replicate 16 7)) 0 ∷ corner 3 line (imageWrite (replicate 15 7)) 10 ∷ corner 3 damaged (imageWrite (replicate 16 7)) 3 ∷
     corner 3 damaged (imageWrite []) 3 ∷
@@ -130,8 +135,8 @@ corners =
     corner 3 line (imageRead (0 ∷ 1 ∷ 1 ∷ 0 ∷ 0 ∷ 1 ∷ drop 6 lineImage)) 9 ∷ corner 3 line (imageRead (0 ∷ 1 ∷ 0 ∷ drop 3 lineImage)) 9 ∷
     corner 3 line (imageRead (take 8 lineImage ++ (2 ∷ drop 9 lineImage))) 9 ∷ []
 
-pub corners-hold : map answersSo corners ≡ replicate 73 true
-unfolding answersSo sumTo joinTo listTo allTo same setOf count visits uses time least extend hops routes leastTime quickest ways through portion share used score filled sized validCosts uncrowded right touched touchedBy judged lowFirst field imageOf validRecord isImage costsOf run rule refusal after answer
+pub corners-hold : map answersSo corners ≡ replicate 83 true
+unfolding answersSo sumTo joinTo listTo allTo same setOf count chosen ahead among inOrder visits uses time least extend hops routes leastTime quickest ways quickestRoutes through portion share used score filled sized validCosts uncrowded right touched touchedBy judged routeBytes routeList lowFirst field imageOf validRecord isImage costsOf run rule refusal after answer
 corners-hold = refl
 
 -- what accepted calls leave on these tables: no links, the costs brought, those of the image, those of the edit; the tables as they were; and
@@ -157,6 +162,17 @@ pub book-images :
     (map (λ a. a .buffer) said ≡ [] ∷ replicate 15 7 ∷ (lineImage ++ (7 ∷ 7 ∷ [])) ∷ []) × (run bookAfter calls (noLinks 3) .links ≡ lineCosts)
 unfolding sumTo joinTo listTo allTo count visits time least extend hops routes leastTime quickest ways validCosts uncrowded lowFirst field imageOf validRecord isImage costsOf rule bookRefusal bookAfter bookAnswer bookAnswers run
 book-images = (refl, refl, refl, refl)
+
+-- the book of route lists: before and after an insert that makes two routes of one, into buffers that are too long; between them one with
+-- a stop of n, and one into a buffer that is a byte too short
+pub book-lists :
+    let asks : List Ask = workOut lineCosts ∷ listRoutes 0 2 (replicate 6 7) ∷ change Insert 0 2 2 ∷ listRoutes 3 2 [] ∷ listRoutes 0 2 (replicate 7 7) ∷ listRoutes 0 2 (replicate 9 7) ∷ [] in
+    let calls : List Call = map (λ a. record { n = 3; ask = a }) asks in
+    (map (λ a. number (a .refusal) ∷ a .length ∷ a .buffer) (bookAnswers calls (noLinks 3)) ≡
+    (0 ∷ 0 ∷ []) ∷ (0 ∷ 5 ∷ 1 ∷ 3 ∷ 0 ∷ 1 ∷ 2 ∷ 7 ∷ []) ∷ (0 ∷ 0 ∷ []) ∷ (4 ∷ 0 ∷ []) ∷ (10 ∷ 0 ∷ replicate 7 7) ∷
+    (0 ∷ 8 ∷ 2 ∷ 3 ∷ 0 ∷ 1 ∷ 2 ∷ 2 ∷ 0 ∷ 2 ∷ 7 ∷ []) ∷ []) × (run bookAfter calls (noLinks 3) .links ≡ 0 ∷ 1 ∷ 2 ∷ drop 3 lineCosts)
+unfolding sumTo joinTo listTo allTo setOf count chosen ahead among inOrder visits uses time least extend hops routes leastTime quickest ways quickestRoutes used validCosts uncrowded touched routeBytes routeList rule bookRefusal bookAfter bookAnswer bookAnswers run
+book-lists = (refl, refl)
 
 -- the book of moving calls: with no links, with a share above 0, after the link behind it is closed, and with another n
 pub book-moves :

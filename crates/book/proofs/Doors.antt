@@ -1,13 +1,14 @@
 -- The tests that calls share: what the door (1 and 2) and the audit (1 to 3) say of every call behind them. Assumes nothing.
 use Prim.Native.Nat.{ℕ}
 use mathlib.Core.Path.{_≡_, refl, sym, _∙_, ap}
-use mathlib.Core.Bool.{Bool, true, false, _&&_, and-false}
+use mathlib.Core.Bool.{Bool, true, false, cond, _&&_, and-false}
 use Rattle.routes.proofs.Booleans.{both}
 use Rattle.book.specs.Hall.{Tables, mostStops, mostWays, scale, upTo, filled, sized, right}
 use Rattle.book.specs.Call.{Call, audit, accepted, need, Answer, refusedAt, Rule, rule, chain, refusal, after, answer, Done}
 use Rattle.book.specs.Contract.{ofRefusal, doorTests, Inside, Audited}
 use Rattle.book.specs.declared.Refusal.{Refusal}
 use Rattle.book.specs.declared.Refusal.the-variants.{Accepted, BadSize, BadLength, BadTables}
+use Rattle.book.proofs.Filled.{right-true}
 use Rattle.book.proofs.Answers.{done-refusal}
 use Rattle.book.proofs.Passed.{chain-true}
 use Rattle.book.proofs.Refused.{bufferOf, placeOf, refused-done}
@@ -81,3 +82,22 @@ pub accepted-done : (c : Call) (t t′ : Tables) (a : Answer) → refusal c t �
     t′ ≡ filled scale (c .n) (rule (c .n) (c .ask) (t .cost) .leaves) → a ≡ rule (c .n) (c .ask) (t .cost) .says → Done c t t′ a
 unfolding after answer
 accepted-done c t t′ a ok left said = record { left = left ∙ rw ok; answered = said ∙ rw ok }
+
+-- accepted or refused, a call that audits and leaves the present costs leaves the tables; so does an audit
+pub leaves-tables : (c : Call) (t : Tables) → let r : Rule = rule (c .n) (c .ask) (t .cost) in
+    r .leaves ≡ t .cost → r .sound t ≡ right scale mostWays (c .n) t → after c t ≡ t
+unfolding after refusal
+leaves-tables c t same audits = rw same (go (accepted (refusal c t)) refl)
+  where
+    r : Rule
+    r = rule (c .n) (c .ask) (t .cost)
+
+    go : (b : Bool) → accepted (refusal c t) ≡ b → cond b (filled scale (c .n) (t .cost)) t ≡ t
+    go true e =
+        let (size, lengths, sound, tests) = chain-true (c .n) (r .fits && sized (c .n) t) (r .sound t) (r .tests) e in
+        right-true scale mostWays (c .n) t (sym audits ∙ sound) .2
+    go false e = refl
+
+pub audit-leaves : (n : ℕ) (t : Tables) → after (record { n = n; ask = audit }) t ≡ t
+unfolding rule
+audit-leaves n t = leaves-tables (record { n = n; ask = audit }) t refl refl

@@ -25,5 +25,7 @@ pub mod Raises
 pub mod Answers
 pub mod Refused
 pub mod Bounded
+pub mod RouteLists
 pub mod Doors
+pub mod Buffers
 pub mod Contracts

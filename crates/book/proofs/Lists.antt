@@ -26,7 +26,7 @@ use Rattle.book.proofs.Places.{none-told, edit-tells, accepted-place}
 use Rattle.book.proofs.Steps.{Held, held-right, held-edited, accepted-book, refusal-book}
 use Rattle.book.proofs.Sets.{same-row, row-stays, set-facts}
 use Rattle.book.proofs.Edits.{row-changed}
-use Rattle.book.proofs.Calls.{leaves-tables}
+use Rattle.book.proofs.Doors.{leaves-tables}
 
 neither : (a b : Bool) → (a || b) ≡ false → (a ≡ false) × (b ≡ false)
 neither false b e = (refl, e)

@@ -4,7 +4,7 @@ use mathlib.Core.Path.{_≡_, refl, sym, _∙_, ap}
 use mathlib.Core.Bool.{Bool, true, false, cond}
 use mathlib.Core.List.{List}
 use Rattle.book.specs.Hall.{Tables}
-use Rattle.book.specs.Call.{Ask, emptyHall, audit, moveOver, workOut, edit, editList, imageWrite, imageRead, Call, accepted, Answer, refusedAt, rule, refusal, after, answer, Done}
+use Rattle.book.specs.Call.{Ask, emptyHall, audit, moveOver, workOut, edit, editList, listRoutes, imageWrite, imageRead, Call, accepted, Answer, refusedAt, rule, refusal, after, answer, Done}
 use Rattle.book.specs.Book.{Step, withCost, lent, kept}
 use Rattle.book.proofs.Answers.{done-refusal}
 use Rattle.book.specs.declared.Edit.{Edit}
@@ -67,10 +67,12 @@ kept-left s t d same = go (accepted (s .answer .refusal)) refl
         let found : s .left ≡ t = refused-unchanged (s .call) (lent (s .call) t) (s .left) (s .answer) d e .tables ∙ same in
         rw found
 
--- every call but work out is lent the five themselves, and work out its own cost table beside four of them; an image write its buffer
-pub lent-all : (n : ℕ) (e : Edit) (edits : List Edit) (cost buffer image : List ℕ) (t : Tables) →
+-- every call but work out is lent the five themselves, and work out its own cost table beside four of them; a route list and an image
+-- write their buffer
+pub lent-all : (n s x : ℕ) (e : Edit) (edits : List Edit) (cost buffer image : List ℕ) (t : Tables) →
     let of : Ask → Tables = λ ask. lent (record { n = n; ask = ask }) t in
-    (of emptyHall ≡ t) × (of audit ≡ t) × (of moveOver ≡ t) × (of (edit e) ≡ t) × (of (editList edits) ≡ t) × (of (imageWrite buffer) ≡ t) × (of (imageRead image) ≡ t) ×
-    (of (workOut cost) ≡ withCost cost t) × (bufferOf (record { n = n; ask = imageWrite buffer }) t ≡ buffer)
+    let into : Ask → List ℕ = λ ask. bufferOf (record { n = n; ask = ask }) t in
+    (of emptyHall ≡ t) × (of audit ≡ t) × (of moveOver ≡ t) × (of (edit e) ≡ t) × (of (editList edits) ≡ t) × (of (listRoutes s x buffer) ≡ t) × (of (imageWrite buffer) ≡ t) ×
+    (of (imageRead image) ≡ t) × (of (workOut cost) ≡ withCost cost t) × (into (listRoutes s x buffer) ≡ buffer) × (into (imageWrite buffer) ≡ buffer)
 unfolding rule
-lent-all n e edits cost buffer image t = (refl, refl, refl, refl, refl, refl, refl, refl, refl)
+lent-all n s x e edits cost buffer image t = (refl, refl, refl, refl, refl, refl, refl, refl, refl, refl, refl)

@@ -4,17 +4,18 @@ use mathlib.Core.Path.{_≡_, refl, _∙_, ap, subst}
 use mathlib.Core.Logic.{_≢_}
 use mathlib.Core.Bool.{Bool, true, false, cond, _&&_, and-eq-true-iff}
 use mathlib.Core.List.{List, [], _∷_}
-use lib.Dec.{eqb, leb, lit<}
+use lib.Dec.{eqb, ltb, leb, lit<}
 use lib.ListN.{length, replicate, length-set, length-replicate}
 use native.Mathlib.Omega.{arith}
 use borrow.Author.Tests.{eqb-true, eq-eqb, ne-eqb, leb-true}
 use Rattle.routes.proofs.Booleans.{both}
-use Rattle.book.specs.Hall.{Tables, mostStops, mostWays, mostEdits, scale, oldMostWays, oldScale, upTo, entry, filled, sized, validCosts, uncrowded, right, imageOf, isImage, costsOf}
-use Rattle.book.specs.Call.{Ask, emptyHall, audit, moveOver, workOut, edit, editList, imageWrite, imageRead, Call, number, accepted, need, waysTest, costSet, withEdit, editRefusal, run, withEdits, judged, Rule, rule, Answer, refusal, after, answer, Done}
+use Rattle.book.specs.Hall.{Tables, mostStops, mostWays, mostEdits, scale, oldMostWays, oldScale, upTo, entry, filled, sized, validCosts, uncrowded, right, routeList, imageOf, isImage, costsOf}
+use Rattle.book.specs.Call.{Ask, emptyHall, audit, moveOver, workOut, edit, editList, listRoutes, imageWrite, imageRead, Call, number, accepted, need, waysTest, costSet, withEdit, editRefusal, run, withEdits, judged, Rule, writing, rule, Answer, refusal, after, answer, Done}
 use Rattle.book.specs.Book.{Book, tablesOf, bookRefusal, bookAfter, bookAnswer, Step, withCost, lent, kept, Sequence}
+use Rattle.book.specs.Contract.{Audited}
 use Rattle.book.specs.declared.Edit.{Edit}
 use Rattle.book.specs.declared.Refusal.{Refusal}
-use Rattle.book.specs.declared.Refusal.the-variants.{Accepted, BadSize, BadLength, BadTables, BadCost, BadImage, ShortBuffer, TooManyWays, ListTooLong}
+use Rattle.book.specs.declared.Refusal.the-variants.{Accepted, BadSize, BadLength, BadTables, BadStop, BadCost, BadImage, ShortBuffer, TooManyWays, ListTooLong}
 use Rattle.book.proofs.Tables.{entry-set, valid-set}
 use Rattle.book.proofs.Images.{length-read, read-valid}
 use Rattle.book.proofs.NoLinks.{valid-none, uncrowded-none}
@@ -73,6 +74,13 @@ held-right n t size lengths sound =
     let (valid, few, same) = right-true scale mostWays n t sound in
     record { size = size; square = sized-cost n t lengths; valid = valid; few = few }
 
+-- the tables of such costs are what the audit finds right
+pub held-audited : (n : ℕ) (cost : List ℕ) → Held n cost → Audited n (filled scale n cost)
+held-audited n cost h = record {
+  inside = record { size = h .size; lengths = sized-filled scale n n cost (h .square) ∙ eq-eqb n n refl };
+  sound = right-filled scale mostWays n cost (h .valid) (h .few);
+}
+
 -- of tables that are right by the old numbers, if no pair has more ways than the limit
 held-old : (n : ℕ) (t : Tables) → upTo mostStops n ≡ true → sized n t ≡ true → right oldScale oldMostWays n t ≡ true → accepted (waysTest n (t .cost)) ≡ true → Held n (t .cost)
 held-old n t size lengths old e =
@@ -91,6 +99,7 @@ rule-held n (edit x) t size lengths fits sound e = held-edited n x (t .cost) (he
 rule-held n (editList edits) t size lengths fits sound e =
     let (short, judged) = need-true (leb (length edits) mostEdits) ListTooLong _ refl e in
     held-list n 1 edits (t .cost) (held-right n t size lengths sound) judged
+rule-held n (listRoutes s x buffer) t size lengths fits sound e = held-right n t size lengths sound
 rule-held n (imageWrite buffer) t size lengths fits sound e = held-right n t size lengths sound
 rule-held n (imageRead image) t size lengths fits sound e =
     let (is, e₁) = need-true (isImage n image) BadImage _ refl e in
@@ -123,6 +132,7 @@ by-lent n P t own brought moveOver = own moveOver
 by-lent n P t own brought (workOut cost) = brought cost
 by-lent n P t own brought (edit e) = own (edit e)
 by-lent n P t own brought (editList edits) = own (editList edits)
+by-lent n P t own brought (listRoutes s x buffer) = own (listRoutes s x buffer)
 by-lent n P t own brought (imageWrite buffer) = own (imageWrite buffer)
 by-lent n P t own brought (imageRead image) = own (imageRead image)
 
@@ -140,6 +150,7 @@ sound-in-book n moveOver cost t e = refl
 sound-in-book n (workOut c) cost t e = refl
 sound-in-book n (edit x) cost t e = e
 sound-in-book n (editList edits) cost t e = e
+sound-in-book n (listRoutes s x buffer) cost t e = e
 sound-in-book n (imageWrite buffer) cost t e = e
 sound-in-book n (imageRead image) cost t e = refl
 
@@ -246,6 +257,11 @@ told-other r t = go (accepted r) refl
         let low = leb-true 4 (number r) (and-eq-true-iff (leb 4 (number r)) (leb (number r) 11) .0 (t .tells shut) .0) in
         record { not-three = ne-eqb (number r) 3 (λ e. omega arith) }
 
+-- nor are those of a call that writes
+writing-other : (n : ℕ) (known : Bool) (bytes buffer cost : List ℕ) → Other (writing n known bytes buffer cost .tests)
+writing-other n known bytes buffer cost =
+    need-other known BadStop refl (need-other (leb (length bytes) (length buffer)) ShortBuffer refl (record { not-three = refl }))
+
 rule-other : (n : ℕ) (ask : Ask) (cost : List ℕ) → Other (rule n ask cost .tests)
 unfolding rule
 rule-other n emptyHall cost = record { not-three = refl }
@@ -254,8 +270,8 @@ rule-other n moveOver cost = ways-other n cost
 rule-other n (workOut c) cost = need-other (validCosts n c) BadCost refl (ways-other n c)
 rule-other n (edit e) cost = told-other (editRefusal n e cost) (edit-told n e cost)
 rule-other n (editList edits) cost = need-other (leb (length edits) mostEdits) ListTooLong refl (told-other (judged n 1 edits cost .refusal) (judged-told n 1 edits cost))
-rule-other n (imageWrite buffer) cost =
-    need-other (leb (length (imageOf n cost)) (length buffer)) ShortBuffer refl (record { not-three = refl })
+rule-other n (listRoutes s t buffer) cost = writing-other n (ltb s n && ltb t n) (routeList n cost s t) buffer cost
+rule-other n (imageWrite buffer) cost = writing-other n true (imageOf n cost) buffer cost
 rule-other n (imageRead image) cost = need-other (isImage n image) BadImage refl (ways-other n (costsOf n image))
 
 -- of the tables that a book gives only the moving call asks anything
@@ -267,6 +283,7 @@ asks-nothing n moveOver cost t other = absurd (other refl)
 asks-nothing n (workOut c) cost t other = refl
 asks-nothing n (edit e) cost t other = refl
 asks-nothing n (editList edits) cost t other = refl
+asks-nothing n (listRoutes s x buffer) cost t other = refl
 asks-nothing n (imageWrite buffer) cost t other = refl
 asks-nothing n (imageRead image) cost t other = refl
 

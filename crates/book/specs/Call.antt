@@ -7,7 +7,7 @@ use mathlib.Core.List.{List, [], _∷_, _++_}
 use lib.Dec.{eqb, ltb, leb}
 use lib.ListN.{length, drop, set, replicate}
 use Rattle.routes.specs.Route.{sumTo, setOf}
-use Rattle.book.specs.Hall.{Tables, mostStops, largestCost, mostWays, mostEdits, scale, oldMostWays, oldScale, upTo, entry, filled, sized, validPair, validCosts, uncrowded, right, touched, imageOf, isImage, costsOf}
+use Rattle.book.specs.Hall.{Tables, mostStops, largestCost, mostWays, mostEdits, scale, oldMostWays, oldScale, upTo, entry, filled, sized, validPair, validCosts, uncrowded, right, touched, routeList, imageOf, isImage, costsOf}
 use Rattle.book.specs.declared.Edit.{Edit}
 use Rattle.book.specs.declared.Kind.{Kind}
 use Rattle.book.specs.declared.Kind.the-variants.{Insert, Cheapen, Raise, Delete}
@@ -39,6 +39,7 @@ pub data Ask : Type 0 where
   workOut : (cost : List ℕ) → Ask
   edit : (e : Edit) → Ask
   editList : (edits : List Edit) → Ask
+  listRoutes : (s t : ℕ) → (buffer : List ℕ) → Ask
   imageWrite : (buffer : List ℕ) → Ask
   imageRead : (image : List ℕ) → Ask
 
@@ -115,8 +116,8 @@ judged n k (e ∷ rest) cost =
 abbrev pub ofAnEdit : Refusal → Bool
 ofAnEdit r = leb 4 (number r) && leb (number r) 11
 
--- the place of a list's first refused edit, the set of touched sources, their number and what an edit's link cost before, an image
--- write's length, and the buffer after the call
+-- the place of a list's first refused edit, the set of touched sources, their number and what an edit's link cost before, the
+-- length of what was written, and the buffer after the call
 pub record Answer : Type 0 where
   pub refusal : Refusal
   pub place : ℕ
@@ -152,12 +153,18 @@ pub record Rule : Type 0 where
   pub soundInBook : Tables → Bool  -- 3 in a sequence, of the tables that the book gives; true but for the moving call
   pub tests : Refusal  -- 4 to 12
   pub place : Refusal → ℕ  -- that the refusal of a list tells; 0 in every other call
-  pub leaves : List ℕ  -- the costs of the hall whose tables it leaves; of audit and image write these are the tables that it was lent
+  pub leaves : List ℕ  -- the costs of the hall whose tables it leaves; of audit and the calls that write these are the tables that it was lent
   pub says : Answer
 
 -- a call that brings nothing and is lent no buffer
 abbrev pub onPresent : List ℕ → (Tables → Bool) → Refusal → List ℕ → Answer → Rule
 onPresent cost sound tests leaves says = record { lentCost = cost; lentBuffer = []; fits = true; sound = sound; soundInBook = λ t. true; tests = tests; place = λ r. 0; leaves = leaves; says = says }
+
+-- a call that writes bytes in front of its buffer: 4 where the stops that it brings are not known to the hall, and then 10
+abbrev pub writing : ℕ → (known : Bool) → (bytes buffer : List ℕ) → List ℕ → Rule
+writing n known bytes buffer cost =
+    let tests : Refusal = need known BadStop (need (leb (length bytes) (length buffer)) ShortBuffer Accepted) in
+    record { lentCost = cost; lentBuffer = buffer; fits = true; sound = right scale mostWays n; soundInBook = λ t. true; tests = tests; place = λ r. 0; leaves = cost; says = writes bytes buffer }
 
 -- by n, what is asked and the present costs
 unfoldable pub rule : ℕ → Ask → List ℕ → Rule
@@ -178,9 +185,8 @@ rule n (editList edits) cost =
     let place : Refusal → ℕ = λ r. cond (ofAnEdit r) (first .place) 0 in
     let says : Answer = names n (touchedBy n edits cost) 0 in
     record { lentCost = cost; lentBuffer = []; fits = true; sound = right scale mostWays n; soundInBook = λ t. true; tests = tests; place = place; leaves = withEdits n edits cost; says = says }
-rule n (imageWrite buffer) cost =
-    let image : List ℕ = imageOf n cost in
-    record { lentCost = cost; lentBuffer = buffer; fits = true; sound = right scale mostWays n; soundInBook = λ t. true; tests = need (leb (length image) (length buffer)) ShortBuffer Accepted; place = λ r. 0; leaves = cost; says = writes image buffer }
+rule n (listRoutes s t buffer) cost = writing n (ltb s n && ltb t n) (routeList n cost s t) buffer cost
+rule n (imageWrite buffer) cost = writing n true (imageOf n cost) buffer cost
 rule n (imageRead image) cost =
     let cost′ : List ℕ = costsOf n image in
     onPresent cost (λ t. true) (need (isImage n image) BadImage (waysTest n cost′)) cost′ (plain Accepted [])

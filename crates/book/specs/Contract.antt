@@ -2,17 +2,19 @@
 -- Assumes nothing.
 use Prim.Native.Nat.{ℕ}
 use mathlib.Core.Path.{_≡_}
-use mathlib.Core.Bool.{true}
+use mathlib.Core.Bool.{true, cond}
 use mathlib.Core.List.{List, []}
+use lib.Dec.{leb}
+use lib.ListN.{length}
 use denote.Ref.{RefT}
 use denote.Triple.Both.{Both}
 use Rattle.book.specs.Hall.{Tables, mostStops, mostWays, scale, upTo, sized, right}
-use Rattle.book.specs.Call.{Answer, plain, chain}
+use Rattle.book.specs.Call.{Answer, plain, writes, chain}
 use Rattle.book.specs.declared.EditAnswer.{EditAnswer}
 use Rattle.book.specs.declared.ListAnswer.{ListAnswer}
 use Rattle.book.specs.declared.WriteAnswer.{WriteAnswer}
 use Rattle.book.specs.declared.Refusal.{Refusal}
-use Rattle.book.specs.declared.Refusal.the-variants.{Accepted}
+use Rattle.book.specs.declared.Refusal.the-variants.{Accepted, ShortBuffer}
 
 -- a lent list, and a parameter that is one, at entry and at exit
 abbrev pub Slice : Type 0
@@ -42,7 +44,7 @@ leftBeside cost time ways share score = these (cost .entry) (time .exit) (ways .
 abbrev pub leftShares : (cost time ways share score : Param) → Tables
 leftShares cost time ways share score = these (cost .entry) (time .entry) (ways .entry) (share .exit) (score .exit)
 
--- an answer as the code gives it: a refusal alone, an edit's, a list's, and an image write's with its buffer
+-- an answer as the code gives it: a refusal alone, an edit's, a list's, and that of a call that writes with its buffer
 abbrev pub ofRefusal : Refusal → Answer
 ofRefusal r = plain r []
 
@@ -54,6 +56,10 @@ ofList a = record { refusal = a .refusal; place = a .place; touched = a .touched
 
 abbrev pub ofWrite : WriteAnswer → List ℕ → Answer
 ofWrite a buffer = record { refusal = a .refusal; place = 0; touched = 0; rows = 0; before = 0; length = a .length; buffer = buffer }
+
+-- the answer of a call that writes, behind the tests before 10: its bytes at the front of the buffer where they fit, else the buffer as it was
+abbrev pub stored : (bytes buffer : List ℕ) → Answer
+stored bytes buffer = cond (leb (length bytes) (length buffer)) (writes bytes buffer) (plain ShortBuffer buffer)
 
 -- the door: tests 1 and 2 of the five lent tables
 abbrev pub doorTests : ℕ → Tables → Refusal

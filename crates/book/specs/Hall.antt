@@ -1,11 +1,11 @@
 -- The hall (weighted directed graph) of document 01: its limits, its five tables and what they hold when they are right,
--- and its image (serialised form). Numbers are unbounded here: an image is a list of bytes where it comes from code. Assumes nothing.
+-- its routes as bytes, and its image (serialised form). Numbers are unbounded here: what comes from code is bytes. Assumes nothing.
 use Prim.Native.Nat.{ℕ, zero, suc, _+_, _*_, _-_, _/_, _%_}
 use mathlib.Core.Bool.{Bool, cond, not, _&&_, _||_}
 use mathlib.Core.List.{List, [], _∷_, _++_, map}
 use lib.Dec.{eqb, ltb, leb}
 use lib.ListN.{length, getD}
-use Rattle.routes.specs.Route.{Costs, sumTo, joinTo, listTo, allTo, same, link, leastTime, ways, share, score, used}
+use Rattle.routes.specs.Route.{Costs, sumTo, joinTo, listTo, allTo, same, link, leastTime, ways, quickestRoutes, share, score, used}
 
 -- the limits of a hall and of a list of edits, and the scale L; the mark stands with the times
 abbrev pub mostStops : ℕ
@@ -90,6 +90,16 @@ right L m n t =
 -- a quickest route from s, over the costs before or after, uses the link u to v
 unfoldable pub touched : ℕ → List ℕ → List ℕ → ℕ → ℕ → ℕ → Bool
 touched n before after u v s = used (entry n before) n s u v || used (entry n after) n s u v
+
+-- routes one behind the other, each behind the number of its stops
+unfoldable pub routeBytes : List (List ℕ) → List ℕ
+routeBytes [] = []
+routeBytes (r ∷ rs) = length r ∷ (r ++ routeBytes rs)
+
+-- the list of the quickest routes from s to t in bytes: their number, then each, the number of its stops in front of them; the order is that
+-- of `quickestRoutes`
+unfoldable pub routeList : ℕ → List ℕ → ℕ → ℕ → List ℕ
+routeList n cost s t = let rs : List (List ℕ) = quickestRoutes (entry n cost) n s t in length rs ∷ routeBytes rs
 
 -- x in k bytes, low byte first, and the number that stands so in k bytes at a place
 unfoldable pub lowFirst : ℕ → ℕ → List ℕ

@@ -54,7 +54,7 @@ pub struct ListAnswer {
     pub touched: u64,
 }
 
-// The answer of an image write, beside the buffer: the image's length.
+// The answer of a route list or an image write, beside the buffer: the length of what was written.
 pub struct WriteAnswer {
     pub refusal: Refusal,
     pub length: usize,

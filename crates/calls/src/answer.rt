@@ -8,7 +8,7 @@ ghost use mathlib.Core.Path.{_≡_};
 ghost use Rattle.book.specs.Call.{number};
 
 // The refusal; of an edit or a list of edits the set of touched sources and their number; of an edit the cost before; of a
-// list the place of the refused edit; of an image write the length.
+// list the place of the refused edit; of an image write and a route list the length.
 pub struct Answer {
     pub refusal: u64,
     pub touched: u64,

@@ -29,12 +29,14 @@ pub const IMAGE_READ: u64 = 9;
 
 pub const MOVE_OVER: u64 = 10;
 
-pub const IMAGE_CHECK: u64 = 11;
+pub const LIST_ROUTES: u64 = 11;
+
+pub const IMAGE_CHECK: u64 = 12;
 
 // How many there are.
-pub const CALLS: usize = 12;
+pub const CALLS: usize = 13;
 
-// Only an edit reads u, v and the cost, and a delete not the cost.
+// Only an edit and a route list read u and v, and only an edit that is no delete the cost.
 pub struct Call {
     pub number: u64,
     pub n: u64,
@@ -43,7 +45,7 @@ pub struct Call {
     pub cost: u64,
 }
 
-// A call that brings no link.
+// A call that brings no stops.
 pub fn plain(number: u64, n: u64) -> Call
     ensures { λ r. ⌜ (r .number ≡ number) × (r .n ≡ n) ⌝ }
 {

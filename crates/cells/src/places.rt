@@ -22,12 +22,12 @@ pub fn cells(n: usize) -> usize
     n * n
 }
 
-// The cost of the link u to v, 0 where there is none.
-pub fn link_cost(n: usize, u: usize, v: usize, cost: &[u32]) -> u32
-    requires { ⌜ (u < n) × (v < n) × (n ≤ 64) × (length (now cost) ≡ n * n) ⌝ }
-    ensures { λ r. ⌜ r ≡ entry n (now (cost .entry)) u v ⌝ }
+// The entry in row u, column v: of the costs that of the link u to v, 0 where there is none.
+pub fn read_entry(n: usize, u: usize, v: usize, table: &[u32]) -> u32
+    requires { ⌜ (u < n) × (v < n) × (n ≤ 64) × (length (now table) ≡ n * n) ⌝ }
+    ensures { λ r. ⌜ r ≡ entry n (now (table .entry)) u v ⌝ }
 {
-    cost[start(n, u) + v]
+    table[start(n, u) + v]
 }
 
 // Each of the five tables has its length.

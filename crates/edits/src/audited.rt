@@ -43,7 +43,7 @@ fn apply(
     requires { ⌜ length (now score) ≡ n ⌝ }
     ensures { λ r. ⌜ Applied limit scale n u v new (found cost time ways share score) (left cost time ways share score) (ofEdit r) ⌝ }
 {
-    let before = places::link_cost(n, u, v, cost);
+    let before = places::read_entry(n, u, v, cost);
     let touched = touch::touched_set(n, u, v, new, cost, time);
     if !rework::try_cost(limit, scale, n, u, v, new, touched, cost, time, ways, share) {
         return refused(Refusal::TooManyWays);

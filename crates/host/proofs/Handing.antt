@@ -23,7 +23,7 @@ handed d e = record { left = d .left; said = e ∙ ap inNumbers (d .answered) }
 pub handed-number : {c : Call} {t t′ : Tables} {a : Refusal} {r : ℕ} → Done c t t′ (ofRefusal a) → r ≡ number a → Handed c t t′ (ofNumber r)
 handed-number d e = handed d (ap ofNumber e)
 
--- an edit's, an image write's and a list's, field by field
+-- an edit's, that of a call that writes and a list's, field by field
 pub handed-edit : {c : Call} {t t′ : Tables} {a : EditAnswer} {x : HallEdited} → Done c t t′ (ofEdit a) →
     x .refusal ≡ number (a .refusal) → x .touched ≡ a .touched → x .rows ≡ a .rows → x .before ≡ a .before → Handed c t t′ (ofEdited x)
 handed-edit d e f g h = handed d λ i. ofEdited (record { refusal = e i; rows = g i; touched = f i; before = h i })

@@ -22,7 +22,7 @@ pub record Numbers : Type 0 where
 abbrev pub inNumbers : Answer → Numbers
 inNumbers a = record { refusal = number (a .refusal); place = a .place; touched = a .touched; rows = a .rows; before = a .before; length = a .length; buffer = a .buffer }
 
--- the answers as the C face gives them: a refusal alone, an edit's, a list's, and an image write's with its buffer
+-- the answers as the C face gives them: a refusal alone, an edit's, a list's, and that of a call that writes, with its buffer
 abbrev pub ofNumber : ℕ → Numbers
 ofNumber r = record { refusal = r; place = 0; touched = 0; rows = 0; before = 0; length = 0; buffer = [] }
 

@@ -13,8 +13,9 @@ use image_form::image_check::image_check;
 use images::image_read::image_read;
 use images::image_write::image_write;
 use moves::move_over;
+use route_lists::list_routes;
 ghost use mathlib.Core.Path.{_≡_};
-ghost use Rattle.book.specs.Call.{emptyHall, workOut, audit, moveOver, edit, imageWrite, imageRead, number, imageCheck};
+ghost use Rattle.book.specs.Call.{emptyHall, workOut, audit, moveOver, edit, listRoutes, imageWrite, imageRead, number, imageCheck};
 ghost use Rattle.book.specs.Contract.{found, left, leftBeside, leftShares};
 ghost use Rattle.book.specs.declared.Kind.the-variants.{Insert, Cheapen, Raise, Delete};
 ghost use Rattle.host.specs.Promise.{Handed, HandedList, ofNumber, ofEdited, ofWritten};
@@ -40,7 +41,7 @@ pub struct HallListed {
     pub rows: u32,
 }
 
-// An image write's refusal, and the length of the image.
+// The refusal of a call that writes bytes, and their number.
 #[repr(C)]
 pub struct HallWritten {
     pub refusal: u32,
@@ -231,6 +232,28 @@ pub extern "C" fn hall_edit_numbers(
         place: done.place,
         touched: done.touched,
         rows: done.rows,
+    }
+}
+
+#[no_mangle]
+pub extern "C" fn hall_list_routes(
+    n: u64,
+    s: u64,
+    t: u64,
+    cost: &[u32],
+    time: &[u32],
+    ways: &[u32],
+    share: &[u64],
+    score: &[u64],
+    buffer: &mut [u8],
+) -> HallWritten
+    ensures { λ r. ⌜ Handed (record { n = n; ask = listRoutes s t (now (buffer .entry)) }) (found cost time ways share score) (found cost time ways share score) (ofWritten r (now (buffer .exit))) ⌝ }
+{
+    let w = list_routes(n, s, t, cost, time, ways, share, score, buffer);
+    let refusal = w.refusal;
+    HallWritten {
+        refusal: number_of(refusal),
+        length: w.length as u64,
     }
 }
 

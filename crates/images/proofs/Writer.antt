@@ -1,27 +1,21 @@
--- The steps of an image's writer, and what the call answers. Assumes nothing.
+-- The steps of an image's writer. Assumes nothing.
 use Prim.Native.Nat.{ℕ, zero, suc, _+_, _*_, _/_, _%_, _<_, _≤_}
 use mathlib.Core.Path.{_≡_, refl, sym, _∙_, ap}
-use mathlib.Core.Bool.{Bool, true, false, cond}
 use mathlib.Core.List.{List, _++_}
 use native.Mathlib.Nat.{add-zero, zero-mul, suc-mul, div-div-eq-div-mul}
 use native.Mathlib.Numerals.{add-one}
 use native.Mathlib.Omega.{arith}
-use lib.Dec.{leb}
 use lib.ListN.{length, getD, drop}
 use lib.Seq.{sets}
-use borrow.Author.Tests.{le-leb, lt-leb}
 use Rattle.routes.specs.Route.{sumTo}
-use Rattle.book.specs.Hall.{Tables, entry, imageOf}
-use Rattle.book.specs.Call.{Call, imageWrite, accepted, need, Answer, plain, writes, rule, answer, Done}
-use Rattle.book.specs.Contract.{ofWrite, Audited}
-use Rattle.book.proofs.Calls.{write-leaves}
-use Rattle.book.proofs.Doors.{behind-audit}
-use Rattle.book.specs.declared.Refusal.{Refusal}
+use Rattle.book.specs.Hall.{entry, imageOf}
+use Rattle.book.specs.Contract.{ofWrite, stored}
+use Rattle.book.proofs.Buffers.{stored-short, stored-whole}
 use Rattle.book.specs.declared.Refusal.the-variants.{Accepted, ShortBuffer}
 use Rattle.book.proofs.Bytes.{stored as put}
 use Rattle.book.specs.Written.{linkRecord, recordsTo, linksTo, trailer}
 use Rattle.book.proofs.Writer.{records-none, records-more, records-row, links-more, links-row, links-grow, length-record, length-records, length-image, trailer-stored}
-use Rattle.images.specs.Promise.{linkBit, linkBytes, links, stored, Wrote}
+use Rattle.images.specs.Promise.{linkBit, linkBytes, links, Wrote}
 
 -- the bytes of a number's low half and of its high half are its four bytes
 pub half-bytes : (x : ℕ) →
@@ -95,35 +89,16 @@ module _ (n : ℕ) (cost : List ℕ) where
     image-size = omega (arith, length-image n cost, links-all n cost square)
 
     -- too short a buffer
-    pub store-short : (b : List ℕ) → length b < 4 * c + 8 → ofWrite (record { refusal = ShortBuffer; length = 0 }) b ≡ stored n cost b
-    store-short b h = rw (lt-leb (length (imageOf n cost)) (length b) (omega (arith, image-size)))
+    pub store-short : (b : List ℕ) → length b < 4 * c + 8 → ofWrite (record { refusal = ShortBuffer; length = 0 }) b ≡ stored (imageOf n cost) b
+    store-short b h = stored-short (imageOf n cost) (4 * c + 8) image-size b h
 
     -- all records, and the trailer behind them
     pub store-whole : {at : ℕ} {b rows all : List ℕ} → 4 * c + 8 ≤ length b → Wrote n cost 0 0 0 n 0 at b rows →
-        all ≡ sets rows at (trailer n c) → ofWrite (record { refusal = Accepted; length = 4 * c + 8 }) all ≡ stored n cost b
+        all ≡ sets rows at (trailer n c) → ofWrite (record { refusal = Accepted; length = 4 * c + 8 }) all ≡ stored (imageOf n cost) b
     store-whole {at} {b} {rows} {all} h w f =
         let none : b ≡ recordsTo n (entry n cost) 0 0 ++ drop 0 b = rw (records-none n (entry n cost)) in
         let total : c ≡ linksTo n (entry n cost) n 0 = count ∙ links-all n cost square in
         let place : at ≡ 4 * c = omega (arith, w .place) in
         let end : at + 8 ≡ 4 * c + 8 = omega arith in
-        let bytes : all ≡ imageOf n cost ++ drop (4 * c + 8) b = f ∙ rw (w .bytes b refl none) (rw end at (trailer-stored n cost b c at total place (omega arith))) in
-        rw (le-leb (length (imageOf n cost)) (length b) (omega (arith, image-size)))
-        (ap (ofWrite (record { refusal = Accepted; length = 4 * c + 8 })) bytes ∙ rw (← image-size))
-
-module _ (n : ℕ) (t : Tables) (buffer : List ℕ) where
-  abbrev call : Call
-  call = record { n = n; ask = imageWrite buffer }
-
-  -- right tables: the image is stored where it fits
-  pub write-stored : {a : Answer} → Audited n t → a ≡ stored n (t .cost) buffer → Done call t t a
-  unfolding answer rule
-  write-stored {a} audited e = record {
-    left = sym (write-leaves n t buffer);
-    answered = e ∙ rw (behind-audit call t (λ s. refl) refl audited) (go (leb (length (imageOf n (t .cost))) (length buffer)));
-  }
-    where
-      go : (b : Bool) →
-          let r : Refusal = need b ShortBuffer Accepted in
-          cond b (writes (imageOf n (t .cost)) buffer) (plain ShortBuffer buffer) ≡ cond (accepted r) (writes (imageOf n (t .cost)) buffer) (plain r buffer)
-      go true = refl
-      go false = refl
+        stored-whole (imageOf n cost) (4 * c + 8) image-size b h
+        (f ∙ rw (w .bytes b refl none) (rw end at (trailer-stored n cost b c at total place (omega arith))))

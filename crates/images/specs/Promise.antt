@@ -3,13 +3,11 @@ use Prim.Native.Nat.{ℕ, _*_, _≤_}
 use mathlib.Core.Path.{_≡_}
 use mathlib.Core.Bool.{Bool, true, cond}
 use mathlib.Core.List.{List, [], _∷_, _++_}
-use lib.Dec.{ltb, leb}
+use lib.Dec.{ltb}
 use lib.ListN.{length, getD, drop}
 use Rattle.routes.specs.Route.{sumTo}
-use Rattle.book.specs.Hall.{mostWays, scale, entry, validCosts, lowFirst, imageOf, costsOf}
-use Rattle.book.specs.Call.{Answer, plain, writes}
+use Rattle.book.specs.Hall.{mostWays, scale, entry, validCosts, lowFirst, costsOf}
 use Rattle.book.specs.Written.{recordsTo, linksTo}
-use Rattle.book.specs.declared.Refusal.the-variants.{ShortBuffer}
 use Rattle.tables.specs.Promise.{FilledAll}
 
 -- 1 for the cost of a link, 0 where there is none; its record, no byte where there is none; and the number of links of a cost table
@@ -21,12 +19,6 @@ linkBytes u v cost = cond (ltb 0 cost) (u ∷ v ∷ lowFirst 2 cost) []
 
 abbrev pub links : List ℕ → ℕ
 links cost = sumTo (length cost) (λ i. linkBit (getD cost i 0))
-
--- the answer of an image write on right tables: the image at the front of the buffer where it fits, else the buffer as it was
-abbrev pub stored : ℕ → List ℕ → List ℕ → Answer
-stored n cost buffer =
-    let image : List ℕ = imageOf n cost in
-    cond (leb (length image) (length buffer)) (writes image buffer) (plain ShortBuffer buffer)
 
 -- a hall's cost table, and a buffer that has room for all its records
 pub record Room (n : ℕ) (cost buffer : List ℕ) : Type 0 where

@@ -10,11 +10,11 @@ ghost use mathlib.Core.Bool.{true};
 ghost use Prim.Native.Nat.{_+_, _*_, _<_, _≤_};
 ghost use lib.ListN.{length};
 ghost use lib.Seq.{sets};
-ghost use Rattle.book.specs.Hall.{entry, validCosts};
+ghost use Rattle.book.specs.Hall.{entry, validCosts, imageOf};
 ghost use Rattle.book.specs.Written.{linksTo, trailer};
 ghost use Rattle.book.specs.Call.{imageWrite, Done};
-ghost use Rattle.book.specs.Contract.{found, ofWrite};
-ghost use Rattle.images.specs.Promise.{linkBit, linkBytes, links, stored, Room, Wrote};
+ghost use Rattle.book.specs.Contract.{found, ofWrite, stored};
+ghost use Rattle.images.specs.Promise.{linkBit, linkBytes, links, Room, Wrote};
 
 // The number of links.
 fn count(cost: &[u32]) -> usize
@@ -77,7 +77,7 @@ fn put_trailer(n: usize, links: usize, at: usize, buffer: &mut [u8])
 // Stores the image where it fits. Else nothing is written.
 fn store(n: usize, cost: &[u32], buffer: &mut [u8]) -> WriteAnswer
     requires { ⌜ (n ≤ 64) × (length (now cost) ≡ n * n) × (validCosts n (now cost) ≡ true) ⌝ }
-    ensures { λ r. ⌜ ofWrite r (now (buffer .exit)) ≡ stored n (now (cost .entry)) (now (buffer .entry)) ⌝ }
+    ensures { λ r. ⌜ ofWrite r (now (buffer .exit)) ≡ stored (imageOf n (now (cost .entry))) (now (buffer .entry)) ⌝ }
 {
     let links = count(cost);
     let length = 4 * links + 8;

@@ -25,7 +25,7 @@ fn made(name: &[u8], n: u64, list: List, before: Tables, t: Tables) -> Tables {
 }
 
 // Two ways from stop 0 to stop 3, by stop 1 and by stop 2.
-fn diamond() -> Tables {
+pub fn diamond() -> Tables {
     let first = link(4, 0, 1, 5, link(4, 1, 3, 5, filled(0, 0)));
     report::worked(4, link(4, 0, 2, 5, link(4, 2, 3, 5, first)))
 }

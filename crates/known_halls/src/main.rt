@@ -4,6 +4,7 @@ mod line;
 mod listed;
 mod lists;
 mod moved;
+mod quickest;
 mod report;
 mod sizes;
 mod smallest;
@@ -26,6 +27,8 @@ fn main() {
     moved::most();
     moved::too_many();
     moved::none_between();
+    quickest::two_ways();
+    quickest::longest();
     sizes::too_large();
     smallest::no_links();
 }

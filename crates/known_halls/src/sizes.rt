@@ -1,5 +1,6 @@
 // A hall of 65 stops, which no call takes. Every entry and byte is 7 at first.
 use super::lists;
+use super::quickest;
 use super::report;
 use super::text;
 use super::text::end;
@@ -39,6 +40,7 @@ fn images(t: Tables, buffer: &mut [u8]) -> Tables {
     let image = [65u8, 1, 0, 0, 0, 0, 0, 0];
     report::image_write(b"image write into 260 bytes: ", 65, t, buffer);
     end();
+    quickest::listed(65, 0, 1, 260, t, buffer);
     let left = report::image_read(b"image read ", 65, &image, t);
     report::image_check(b", image check ", &image, 65);
     end();

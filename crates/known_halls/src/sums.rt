@@ -1,6 +1,7 @@
 // Halls of many ways at each stop: every stop has links to all later ones, of the cost of their distance, so that all routes
 // forward tie, and the ways double from stop to stop.
 use super::lists;
+use super::quickest;
 use super::report;
 use super::text::end;
 use super::text::say;
@@ -61,6 +62,7 @@ pub fn right_in_16_bits() {
     say(b"8 ways, 5 stops\n");
     let t = report::worked(5, forward(5));
     report::pair(4, t);
+    quickest::shown(5, 0, 4, 40, t);
     let wrong = with_ways(5, 4, 65544, t);
     say(b"with 65544 ways in their place");
     report::audit(5, wrong);
@@ -71,4 +73,5 @@ pub fn right_in_16_bits() {
     let last = report::list(b"33 inserts: ", 5, lists::inserts(33), left);
     report::same(last, wrong);
     end();
+    quickest::shown(5, 0, 4, 40, last);
 }

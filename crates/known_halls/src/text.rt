@@ -1,6 +1,8 @@
 // Writing to standard output.
 use calls::compare::unlike;
 use libc::STDOUT_FILENO;
+use std::num::wrapping_add_u64;
+use std::num::wrapping_add_usize;
 
 pub fn say(text: &[u8]) {
     io::write_all(STDOUT_FILENO, text);
@@ -51,7 +53,39 @@ pub fn behind(bytes: &[u8], k: usize) -> &[u8] {
 pub fn changed(bytes: &[u8]) -> u64 {
     let mut count = 0u64;
     for i in 0..bytes.len() {
-        count = std::num::wrapping_add_u64(count, unlike(at(bytes, i), 7));
+        count = wrapping_add_u64(count, unlike(at(bytes, i), 7));
     }
     count
+}
+
+// How many bytes of two rows differ; what is behind the end of one counts as 0 there.
+pub fn differing(a: &[u8], b: &[u8]) -> u64 {
+    let mut count = 0u64;
+    for i in 0..a.len() {
+        count = wrapping_add_u64(count, unlike(at(a, i), at(b, i)));
+    }
+    count
+}
+
+// A line: a name, and of each route of a list the number of its stops.
+pub fn lengths(name: &[u8], list: &[u8]) {
+    say(name);
+    let mut place = 1usize;
+    for i in 0..at(list, 0) {
+        let length = at(list, place);
+        field(b" ", length);
+        place = wrapping_add_usize(place, wrapping_add_usize(length as usize, 1));
+    }
+    end();
+}
+
+// The sum of the sums of the first bytes, of the first one, the first two and so on: it tells bytes and their order.
+pub fn sum_of_sums(bytes: &[u8], count: usize) -> u64 {
+    let mut front = 0u64;
+    let mut sum = 0u64;
+    for i in 0..count {
+        front = wrapping_add_u64(front, at(bytes, i));
+        sum = wrapping_add_u64(sum, front);
+    }
+    sum
 }

@@ -1,11 +1,12 @@
 // A slow lister of routes, for halls of at most 64 stops. It walks over every route from each stop,
 // keeps count of the quickest to each other, and gives what they make: times, ways, shares, scores,
-// and the sources that an edited link touches. A larger n counts as 64. How long it takes goes by the
-// number of routes, and not of stops.
+// the sources that an edited link touches, and the quickest routes themselves. A larger n counts as 64.
+// How long it takes goes by the number of routes, and not of stops.
 //
-// What a hall's own entries hold, and which bits of stops a set has, the contracts leave free: to fix
-// it they would need the definitions of what the lister is held against.
+// What a hall's own entries hold, which bits of stops a set has, and which routes are written, the
+// contracts leave free: to fix it they would need the definitions of what the lister is held against.
 mod fill;
+mod quickest;
 mod route;
 mod tally;
 mod walk;
@@ -14,11 +15,15 @@ ghost use mathlib.Core.Path.{_≡_};
 ghost use Prim.Native.Nat.{_*_, _^_, _≤_, _<_, min};
 ghost use lib.Bits.{bitOr};
 ghost use lib.Count.{ones};
-ghost use lib.ListN.{drop};
+ghost use lib.ListN.{length, drop};
+ghost use Rattle.lister.specs.Wrote.{Wrote};
 use fill::fill_row;
 use fill::fill_scores;
+use quickest::keep;
+use quickest::put;
 use route::STOPS;
 use tally::ROOM;
+use tally::time_to;
 use tally::using_to;
 use walk::list;
 
@@ -122,4 +127,39 @@ pub fn number(set: u64) -> u64
         rest /= 2;
     }
     number
+}
+
+// Writes those of the routes from s that lead to t in the least time, behind the byte of their number.
+fn put_routes(cost: &[u32], n: usize, s: usize, t: usize, buffer: &mut [u8], from: usize) -> usize
+    requires { ⌜ n ≤ 64 ⌝ }
+    requires { ⌜ (s < n) × (t < n) ⌝ }
+    requires { ⌜ (0 < from) × (from ≤ length (now buffer)) ⌝ }
+    ensures { λ r. ⌜ Wrote from r (now (buffer .entry)) (now (buffer .exit)) ⌝ }
+{
+    let mut tally = [0u64; ROOM];
+    list(cost, n, s, 0, 0, &mut tally);
+    let least = time_to(&tally, t);
+    let mut route = [0u8; STOPS];
+    route[0] = s as u8;
+    keep(cost, n, t, least, &mut route, 1, buffer, from)
+}
+
+// Writes the quickest routes from s to t: one byte with their number, and then each as one byte with the number of its stops and a
+// byte for each stop, in order of their stops, compared from the front. Says how many bytes it wrote; a list that the buffer is too
+// short for is cut off. From and to a stop of n or more there is no route.
+pub fn routes(cost: &[u32], n: u64, s: u64, t: u64, buffer: &mut [u8]) -> usize
+    ensures { λ r. ⌜ Wrote 0 r (now (buffer .entry)) (now (buffer .exit)) ⌝ }
+{
+    let n = few(n);
+    let first = put(buffer, 0, 0);
+    if first == 0 {
+        return first;
+    }
+    if n as u64 <= s {
+        return first;
+    }
+    if n as u64 <= t {
+        return first;
+    }
+    put_routes(cost, n, s as usize, t as usize, buffer, first)
 }

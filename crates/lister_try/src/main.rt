@@ -1,7 +1,7 @@
-// Writes the lister's tables of four halls, and what the edits that make and change the first of them
-// touch; the second hall's tables also by the old scale. The stored output was worked out apart from the
-// lister: the first two halls by hand, the line by formulas, the last by listing its routes in another
-// program.
+// Writes the lister's tables of four halls, their quickest routes between some stops, and what the edits
+// that make and change the first of them touch; the second hall's tables also by the old scale. The stored
+// output was worked out apart from the lister: the first two halls by hand, the line by formulas, the last
+// and the routes of all by listing them in another program.
 ghost use Prim.Native.Nat.{_<_};
 
 // What a whole share counts, and what it counted before.
@@ -34,6 +34,55 @@ fn hall(cost: &[u32], n: u64, scale: u32, entries: usize) {
     line(b"ways", &ways, entries);
     line(b"share", &share, entries);
     line(b"score", &score, n as usize);
+}
+
+fn byte_at(bytes: &[u8], i: usize) -> u64 {
+    if i < bytes.len() { wide(bytes[i]) } else { 0 }
+}
+
+fn wide(x: u8) -> u64 {
+    x as u64
+}
+
+// Writes a line: two stops, and the bytes that the lister wrote of the quickest routes between them.
+fn routes(cost: &[u32], n: u64, s: u64, t: u64, buffer: &mut [u8]) {
+    let length = lister::routes(cost, n, s, t, buffer);
+    io::write_all(1, b"routes ");
+    io::print_decimal(1, s);
+    io::write_all(1, b" ");
+    io::print_decimal(1, t);
+    io::write_all(1, b":");
+    for i in 0..length {
+        io::write_all(1, b" ");
+        io::print_decimal(1, byte_at(buffer, i));
+    }
+    io::write_all(1, b"\n");
+}
+
+// In the hall of two ways from 0 to 3; stop 4 is none of its stops.
+fn diamond_routes(cost: &[u32], buffer: &mut [u8]) {
+    routes(cost, 4, 0, 3, buffer);
+    routes(cost, 4, 1, 3, buffer);
+    routes(cost, 4, 2, 2, buffer);
+    routes(cost, 4, 3, 0, buffer);
+    routes(cost, 4, 0, 4, buffer);
+    routes(cost, 4, 4, 4, buffer);
+}
+
+// The same list in buffers of eight bytes and of none: it is cut off.
+fn cut_off(cost: &[u32]) {
+    let mut bytes = [0u8; 8];
+    let buffer: &mut [u8] = &mut bytes;
+    routes(cost, 4, 0, 3, buffer);
+    routes(cost, 4, 0, 3, &mut buffer[0..0]);
+}
+
+// In the hall of ties, where routes of different lengths take the same time.
+fn tied_routes(cost: &[u32], buffer: &mut [u8]) {
+    routes(cost, 5, 0, 1, buffer);
+    routes(cost, 5, 0, 3, buffer);
+    routes(cost, 5, 0, 4, buffer);
+    routes(cost, 5, 4, 0, buffer);
 }
 
 fn put(table: &mut [u32], i: usize, c: u32) {
@@ -127,17 +176,27 @@ fn main() {
     let mut present = [0u32; 16];
     let before: &mut [u32] = &mut former;
     let diamond: &mut [u32] = &mut present;
+    let mut bytes = [0u8; 65];
+    let buffer: &mut [u8] = &mut bytes;
     edit(before, diamond, 0, 1, 5);
     edit(before, diamond, 0, 2, 5);
     edit(before, diamond, 1, 3, 5);
     edit(before, diamond, 2, 3, 5);
     hall(diamond, 4, SCALE, 16);
+    diamond_routes(diamond, buffer);
+    cut_off(diamond);
     edit(before, diamond, 2, 3, 4);
     hall(diamond, 4, SCALE, 16);
+    routes(diamond, 4, 0, 3, buffer);
     edit(before, diamond, 2, 3, 0);
     hall(diamond, 4, SCALE, 16);
     hall(&ties(), 5, SCALE, 25);
     hall(&line_of_ten(), 10, SCALE, 100);
     hall(&most_ways(), 6, SCALE, 36);
     hall(&ties(), 5, OLD_SCALE, 25);
+    tied_routes(&ties(), buffer);
+    routes(&line_of_ten(), 10, 0, 9, buffer);
+    routes(&line_of_ten(), 10, 1, 9, buffer);
+    routes(&most_ways(), 6, 0, 5, buffer);
+    routes(&most_ways(), 6, 1, 4, buffer);
 }

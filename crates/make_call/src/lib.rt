@@ -13,6 +13,7 @@ use calls::call::EMPTY_HALL;
 use calls::call::IMAGE_READ;
 use calls::call::IMAGE_WRITE;
 use calls::call::INSERT;
+use calls::call::LIST_ROUTES;
 use calls::call::MOVE_OVER;
 use calls::call::RAISE;
 use calls::call::WORK_OUT;
@@ -33,6 +34,7 @@ use image_form::image_check::image_check;
 use images::image_read::image_read;
 use images::image_write::image_write;
 use moves::move_over;
+use route_lists::list_routes;
 ghost use mathlib.Core.Path.{_≡_};
 ghost use Rattle.book.specs.Call.{number, imageCheck};
 ghost use Rattle.make_call.specs.Room.{Room};
@@ -50,7 +52,8 @@ pub fn check(image: &[u8], n: u64) -> Answer
     of_refusal(image_check(image, n))
 }
 
-// On lent tables. A list call takes the list, an image read and an image check the image, an image write the buffer.
+// On lent tables. A list call takes the list, an image read and an image check the image, an image write and a route list the
+// buffer.
 fn on_lent(
     call: Call,
     list: &[u64],
@@ -63,6 +66,8 @@ fn on_lent(
     score: &mut [u64],
 ) -> Answer {
     let n = call.n;
+    let s = call.u;
+    let t = call.v;
     let number = call.number;
     match number {
         EMPTY_HALL => of_refusal(empty_hall(n, cost, time, ways, share, score)),
@@ -75,6 +80,7 @@ fn on_lent(
         IMAGE_WRITE => of_write(image_write(n, cost, time, ways, share, score, buffer)),
         IMAGE_READ => of_refusal(image_read(n, image, cost, time, ways, share, score)),
         MOVE_OVER => of_refusal(move_over(n, cost, time, ways, share, score)),
+        LIST_ROUTES => of_write(list_routes(n, s, t, cost, time, ways, share, score, buffer)),
         _ => check(image, n),
     }
 }

@@ -94,7 +94,7 @@ pub fn permit(n: u64, e: Edit, cost: &[u32]) -> Refusal
     if !is_pair(n, u, v) {
         return Refusal::BadStop;
     }
-    let present = places::link_cost(n as usize, u as usize, v as usize, cost);
+    let present = places::read_entry(n as usize, u as usize, v as usize, cost);
     let c = e.cost;
     let kind = e.kind;
     match kind {

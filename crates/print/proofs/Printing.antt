@@ -10,20 +10,15 @@ use lib.ListN.{length, set, take, drop, length-append, length-drop, drop-of-leng
 use lib.Seq.{sets, length-sets, sets-eq, take-all, drop-drop}
 use borrow.Rule.Slice.PartMut.{postOf, putMid, post-is}
 use borrow.Author.Tests.{ltb-false, lt-ltb, le-ltb}
+use Rattle.routes.proofs.Stored.{sets-append}
 use Rattle.words.specs.Text.{decimalTo, decimal}
 use Rattle.print.specs.Promise.{Printed}
 
 -- a text behind another one
-sets-append : (out : List ℕ) (at : ℕ) (s t : List ℕ) → sets (sets out at s) (at + length s) t ≡ sets out at (s ++ t)
-sets-append out at [] t = ap (λ (k : ℕ). sets out k t) (omega arith)
-sets-append out at (x ∷ s) t =
-    let e : at + suc (length s) ≡ suc at + length s = omega arith in
-    ap (λ (k : ℕ). sets (sets (set out at x) (suc at) s) k t) e ∙ sets-append (set out at x) (suc at) s t
-
 pub then : {s t out out′ out″ : List ℕ} {at mid end : ℕ} → Printed s at out mid out′ → Printed t mid out′ end out″ → Printed (s ++ t) at out end out″
 then {s} {t} {out} {out′} {out″} {at} {mid} {end} p q = record {
   behind = omega (arith, p .behind, q .behind, length-append s t);
-  written = q .written ∙ ap (λ (o : List ℕ). sets o mid t) (p .written) ∙ ap (λ (k : ℕ). sets (sets out at s) k t) (p .behind) ∙ sets-append out at s t;
+  written = q .written ∙ ap (λ (o : List ℕ). sets o mid t) (p .written) ∙ ap (λ (k : ℕ). sets (sets out at s) k t) (p .behind) ∙ sets-append s t out at;
   inside = omega (arith, q .inside, ap length (p .written), length-sets out at s);
 }
 
@@ -84,7 +79,7 @@ pub record Left (text : List ℕ) (at : ℕ) (out text₀ : List ℕ) (at₀ : �
 pub go-on : {s rest out out′ text₀ out₀ : List ℕ} {at end at₀ : ℕ} → Left (s ++ rest) at out text₀ at₀ out₀ → Printed s at out end out′ → Left rest end out′ text₀ at₀ out₀
 go-on {s} {rest} {out} {at} l p = record {
   ends = omega (arith, l .ends, p .behind, length-append s rest);
-  makes = rw (p .written, p .behind) (sets-append out at s rest ∙ l .makes);
+  makes = rw (p .written, p .behind) (sets-append s rest out at ∙ l .makes);
 }
 
 pub last : {text out out′ text₀ out₀ : List ℕ} {at end at₀ : ℕ} → Left text at out text₀ at₀ out₀ → Printed text at out end out′ → Printed text₀ at₀ out₀ end out′

@@ -1,9 +1,12 @@
 -- Two halls whose tables were worked out by hand: the definitions compute the same. Assumes nothing.
 use Prim.Native.Nat.{ℕ, _+_, _*_, _/_}
 use mathlib.Core.Path.{_≡_, refl}
+use mathlib.Core.Bool.{true, false}
 use mathlib.Core.List.{List, [], _∷_}
 use lib.ListN.{getD}
 use Rattle.routes.specs.Route.{Costs, mark, sumTo, joinTo, listTo, count, visits, time, least, extend, hops, routes, leastTime, quickest, ways, through, portion, share, score}
+use Rattle.routes.specs.Equations.{tight}
+use Rattle.routes.specs.Walk.{leads, walk}
 
 abbrev table : ℕ → (ℕ → ℕ → ℕ) → List ℕ
 table n f = joinTo n (λ s. listTo n (f s))
@@ -47,6 +50,14 @@ diamond-shares = refl
 diamond-scores : listTo 4 (score diamond 4 L) ≡ 0 ∷ L / 2 ∷ L / 2 ∷ 0 ∷ []
 unfolding sumTo joinTo listTo count time least extend visits hops routes leastTime quickest ways through portion share score
 diamond-scores = refl
+
+-- From 0 to 1 the link 0 to 2 is tight, but leads to no quickest route: the walk does not take it.
+diamond-dead-end :
+    let near : ℕ → ℕ = leastTime diamond 4 0 in
+    let far : ℕ → ℕ = λ x. leastTime diamond 4 x 1 in
+    (tight diamond near 0 2 ≡ true) × (leads diamond 4 near far 1 0 2 ≡ false) × (walk diamond 4 near far 1 4 [] 0 ≡ (0 ∷ 1 ∷ []) ∷ [])
+unfolding joinTo time least extend visits hops routes leastTime walk
+diamond-dead-end = (refl, refl, refl)
 
 -- Five stops. From 0 there are two routes of time 2 to 1 and three of time 5 to 3; nothing leads to 0 or away from 4.
 abbrev pub ties : Costs

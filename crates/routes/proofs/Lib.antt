@@ -21,6 +21,10 @@ pub mod Useful
 pub mod Cheaper
 pub mod Touched
 pub mod Product
+pub mod Order
+pub mod Listed
+pub mod Walking
+pub mod Onward
 pub mod Bits
 pub mod Rows
 pub mod Stored

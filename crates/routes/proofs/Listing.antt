@@ -219,15 +219,25 @@ module _ (W : Costs) (n s : ℕ) where
           let (c, _) = and-eq-true-iff (isRoute W n s v (u ∷ q)) _ .0 b in
           sym (route-ends v u q c)) ∙ ap (λ b. cond b 1 0) (last-test k t x u q l)
 
-  -- a route has at most n stops
-  pub route-length : {t : ℕ} {q : List ℕ} → Route (t ∷ q) → length (t ∷ q) ≤ n
+  -- a route's stops are below n and different
+  route-stops : {t : ℕ} {q : List ℕ} → Route (t ∷ q) → (below n (t ∷ q) ≡ true) × (different (t ∷ q) ≡ true)
   unfolding isRoute
-  route-length {t} {q} R =
+  route-stops {t} {q} R =
       let (_, a) = and-eq-true-iff (endsAt t (t ∷ q)) _ .0 (is-route R) in
       let (_, b) = and-eq-true-iff (startsAt s (t ∷ q)) _ .0 a in
       let (c, d) = and-eq-true-iff (below n (t ∷ q)) _ .0 b in
       let (e, _) = and-eq-true-iff (different (t ∷ q)) _ .0 d in
-      pigeonhole n (t ∷ q) c e
+      (c, e)
+
+  -- a route has at most n stops
+  pub route-length : {t : ℕ} {q : List ℕ} → Route (t ∷ q) → length (t ∷ q) ≤ n
+  route-length {t} {q} R = let (c, e) = route-stops R in pigeonhole n (t ∷ q) c e
+
+  -- and as many as it visits
+  pub route-visits : {t : ℕ} {q : List ℕ} → Route (t ∷ q) → length (t ∷ q) ≡ sumTo n (λ v. cond (visits v (t ∷ q)) 1 0)
+  route-visits {t} {q} R =
+      let (c, e) = route-stops R in
+      length-count n (t ∷ q) c ∙ sumTo-cong n (λ v l. different-count v (t ∷ q) e)
 
   -- the listing holds each route to a stop t below n once, and nothing else
   pub routes-once : (t : ℕ) → t < n → (r : List ℕ) → count (same r) (routes W n s t) ≡ cond (isRoute W n s t r) 1 0

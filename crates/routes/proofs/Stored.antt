@@ -1,12 +1,12 @@
 -- A loop that stores f 0, f 1, .. from the front of a list. Assumes nothing.
-use Prim.Native.Nat.{ℕ, _+_, _-_, _<_, _≤_}
+use Prim.Native.Nat.{ℕ, suc, _+_, _-_, _<_, _≤_}
 use mathlib.Core.Path.{_≡_, refl, sym, _∙_, ap}
-use mathlib.Core.List.{List, _++_, append-nil}
+use mathlib.Core.List.{List, [], _∷_, _++_, append-nil}
 use native.Mathlib.Decide.{ℕ-discrete, decLt}
-use native.Mathlib.Nat.{le-antisymm}
+use native.Mathlib.Nat.{add-zero, le-antisymm}
 use native.Mathlib.Omega.{arith}
 use lib.ListN.{length, getD, set, drop, replicate, length-append, length-drop, length-set, length-replicate, getD-replicate, drop-of-length-le, List·getD-append}
-use lib.Seq.{drop-at, ext-getD, getD-append-add, getD-drop, getD-set-same, getD-set-other}
+use lib.Seq.{sets, drop-at, ext-getD, getD-append-add, getD-drop, getD-set-same, getD-set-other}
 use Rattle.routes.specs.Route.{listTo}
 use Rattle.routes.specs.Stored.{Stored}
 use Rattle.routes.proofs.Rows.{length-listTo, getD-listTo}
@@ -61,3 +61,10 @@ stored-whole x n {k} {old} {now} e l s =
     ext-getD 0 now (replicate n x) (s .long ∙ e ∙ sym (length-replicate n x)) λ i h.
     let below : i < n = omega (arith, s .long) in
     s .done i (omega arith) ∙ sym (getD-replicate n i x 0 below)
+
+-- a run of stores behind another one
+pub sets-append : (vs ws l : List ℕ) (at : ℕ) → sets (sets l at vs) (at + length vs) ws ≡ sets l at (vs ++ ws)
+sets-append [] ws l at = rw add-zero
+sets-append (v ∷ vs) ws l at =
+    let e : at + suc (length vs) ≡ suc at + length vs = omega arith in
+    rw e (sets-append vs ws (set l at v) (suc at))

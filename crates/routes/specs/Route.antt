@@ -3,7 +3,7 @@
 -- A route (simple path) is the list of its stops, the last one first. Assumes nothing.
 use Prim.Native.Nat.{ℕ, zero, suc, _+_, _*_, _/_, _%_, _^_, min}
 use mathlib.Core.Bool.{Bool, true, false, cond, _&&_, _||_}
-use mathlib.Core.List.{List, [], _∷_, _++_}
+use mathlib.Core.List.{List, [], _∷_, _++_, map, reverse}
 use lib.Dec.{eqb, ltb}
 
 -- f 0 + .. + f (n - 1)
@@ -46,6 +46,28 @@ has a (suc i) = has (a / 2) i
 unfoldable pub count : {A : Type 0} → (A → Bool) → List A → ℕ
 count p [] = 0
 count p (a ∷ l) = cond (p a) 1 0 + count p l
+
+-- those members of a list that have the property p
+unfoldable pub chosen : {A : Type 0} → (A → Bool) → List A → List A
+chosen p [] = []
+chosen p (a ∷ l) = cond (p a) (a ∷ chosen p l) (chosen p l)
+
+-- r comes before q: their members are compared from the front (lexicographic order); a list comes before those that it begins
+unfoldable pub ahead : List ℕ → List ℕ → Bool
+ahead [] [] = false
+ahead [] (y ∷ q) = true
+ahead (x ∷ r) [] = false
+ahead (x ∷ r) (y ∷ q) = ltb x y || (eqb x y && ahead r q)
+
+-- r put in its place among lists that are in that order
+unfoldable pub among : List ℕ → List (List ℕ) → List (List ℕ)
+among r [] = r ∷ []
+among r (q ∷ rs) = cond (ahead q r) (q ∷ among r rs) (r ∷ q ∷ rs)
+
+-- lists brought in order (insertion sort)
+unfoldable pub inOrder : List (List ℕ) → List (List ℕ)
+inOrder [] = []
+inOrder (r ∷ rs) = among r (inOrder rs)
 
 abbrev pub Costs : Type 0
 Costs = ℕ → ℕ → ℕ
@@ -105,6 +127,10 @@ module _ (W : Costs) (n s : ℕ) where
   -- the number of quickest routes from s to t (σ)
   unfoldable pub ways : ℕ → ℕ
   ways t = quickest (λ r. true) t
+
+  -- those routes themselves, each with its first stop first, in order
+  unfoldable pub quickestRoutes : ℕ → List (List ℕ)
+  quickestRoutes t = let d : ℕ = leastTime t in inOrder (map reverse (chosen (λ r. eqb (time W r) d) (routes t)))
 
   -- the number of those that pass v
   unfoldable pub through : ℕ → ℕ → ℕ

@@ -58,7 +58,7 @@ pub fn touched_set(n: usize, u: usize, v: usize, new: u32, cost: &[u32], time: &
     requires { ⌜ (n ≤ 64) × (length (now cost) ≡ n * n) × (length (now time) ≡ n * n) × (u < n) × (v < n) ⌝ }
     ensures { λ r. ⌜ Found n u v new (now (cost .entry)) (now (time .entry)) r ⌝ }
 {
-    let old = places::link_cost(n, u, v, cost);
+    let old = places::read_entry(n, u, v, cost);
     touched_sources(n, u, v, dearer(old, new), old, new, time)
 }
 

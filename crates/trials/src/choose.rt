@@ -8,6 +8,7 @@ use super::draft;
 use super::image;
 use super::image::Image;
 use super::outcome::Ask;
+use super::output::written;
 use super::places::BYTES;
 use super::places::CELLS;
 use super::places::byte;
@@ -23,6 +24,7 @@ use calls::call::IMAGE_CHECK;
 use calls::call::IMAGE_READ;
 use calls::call::IMAGE_WRITE;
 use calls::call::INSERT;
+use calls::call::LIST_ROUTES;
 use calls::call::MOVE_OVER;
 use calls::call::RAISE;
 use calls::call::WORK_OUT;
@@ -38,6 +40,7 @@ use calls::tables::Tables;
 use calls::tables::cells;
 use calls::tables::place;
 use std::num::wrapping_add_u64;
+use std::num::wrapping_add_usize;
 
 pub struct Pair(pub u64, pub u64);
 
@@ -55,10 +58,10 @@ pub fn stops(seed: &mut u64) -> u64 {
     }
 }
 
-// Which call comes next: of 32, seventeen are edits, two are lists and one is a moving call; the last is an empty hall or an
-// insert.
+// Which call comes next: of 34, seventeen are edits, two are lists of edits, two are route lists and one is a moving call; the
+// last is an empty hall or an insert.
 pub fn call(seed: &mut u64) -> u64 {
-    let x = draw(seed, 32);
+    let x = draw(seed, 34);
     match x {
         0..=4 => INSERT,
         5..=8 => CHEAPEN,
@@ -71,6 +74,7 @@ pub fn call(seed: &mut u64) -> u64 {
         26..=28 => IMAGE_READ,
         29 => IMAGE_CHECK,
         30 => MOVE_OVER,
+        31 | 32 => LIST_ROUTES,
         _ => if once_in(seed, 4) { EMPTY_HALL } else { INSERT },
     }
 }
@@ -133,6 +137,19 @@ fn two(seed: &mut u64, stops: u64) -> Pair {
     outer(stops)
 }
 
+// The stops of a route list: often the first and the last, and now and then the same twice.
+fn route_ends(seed: &mut u64, stops: u64) -> Pair {
+    let x = draw(seed, 12);
+    if x < 6 {
+        return outer(stops);
+    }
+    let s = stop(seed, stops);
+    if x == 6 {
+        return Pair(s, s);
+    }
+    Pair(s, stop(seed, stops))
+}
+
 // Whether an edit may be accepted where the present cost is this.
 pub fn suits(call: u64, present: u64) -> bool {
     if call == INSERT {
@@ -142,7 +159,7 @@ pub fn suits(call: u64, present: u64) -> bool {
 }
 
 // Two stops for an edit: where they do not suit it, drawn anew up to seven times.
-fn ends(seed: &mut u64, call: u64, stops: u64, cost: &[u32; CELLS]) -> Pair {
+fn edit_ends(seed: &mut u64, call: u64, stops: u64, cost: &[u32; CELLS]) -> Pair {
     let mut pair = two(seed, stops);
     for i in 0..draw(seed, 8) {
         if !suits(call, at(cost, place(stops, pair.0, pair.1))) {
@@ -150,6 +167,14 @@ fn ends(seed: &mut u64, call: u64, stops: u64, cost: &[u32; CELLS]) -> Pair {
         }
     }
     pair
+}
+
+// The two stops of a call.
+fn ends(seed: &mut u64, call: u64, stops: u64, cost: &[u32; CELLS]) -> Pair {
+    if call == LIST_ROUTES {
+        return route_ends(seed, stops);
+    }
+    edit_ends(seed, call, stops, cost)
 }
 
 // A cost at most two away from the present one.
@@ -272,30 +297,36 @@ fn some_image(seed: &mut u64, stops: u64, cost: [u32; CELLS], bytes: [u8; BYTES]
     damaged(seed, written, image.length)
 }
 
-// A buffer to write: about as long as the image, or of any length.
-fn buffer(seed: &mut u64, stops: u64, cost: [u32; CELLS], bytes: [u8; BYTES]) -> Image {
-    let image = image::written(stops, cost, bytes);
-    let mut length = draw(seed, 201) as usize;
-    if once_in(seed, 2) {
-        length = resized(seed, bytes, image.length).length;
+// How long to make a buffer for so many bytes: as long, longer, one byte shorter, empty, or of any length.
+fn room(seed: &mut u64, length: usize) -> usize {
+    let x = draw(seed, 8);
+    match x {
+        0 => 0,
+        1 | 2 => if 0 < length { length - 1 } else { 0 },
+        3 | 4 => wrapping_add_usize(length, 1 + draw(seed, 9) as usize),
+        5 => draw(seed, 201) as usize,
+        _ => length,
     }
-    if once_in(seed, 4) {
-        length = image.length;
-    }
+}
+
+// A buffer to write.
+fn buffer(seed: &mut u64, call: Call, stops: u64, cost: [u32; CELLS], bytes: [u8; BYTES]) -> Image {
+    let length = room(seed, written(call, stops, cost, bytes).length);
     Image { bytes, length }
 }
 
 // The bytes of a call.
-fn bytes(seed: &mut u64, call: u64, stops: u64, cost: [u32; CELLS]) -> Image {
+fn bytes(seed: &mut u64, call: Call, stops: u64, cost: [u32; CELLS]) -> Image {
     let mut bytes = [0u8; BYTES];
-    match call {
+    let number = call.number;
+    match number {
         IMAGE_READ | IMAGE_CHECK => {
             fill(seed, &mut bytes);
             some_image(seed, stops, cost, bytes)
         }
-        IMAGE_WRITE => {
+        IMAGE_WRITE | LIST_ROUTES => {
             fill(seed, &mut bytes);
-            buffer(seed, stops, cost, bytes)
+            buffer(seed, call, stops, cost, bytes)
         }
         _ => Image { bytes, length: 0 },
     }
@@ -317,26 +348,29 @@ fn list(seed: &mut u64, call: u64, stops: u64, cost: [u32; CELLS]) -> List {
     no_edits()
 }
 
-// The call with its arguments, on a hall with these costs.
-pub fn ask(seed: &mut u64, number: u64, stops: u64, cost: [u32; CELLS]) -> Ask {
-    let ends = ends(seed, number, stops, &cost);
-    let image = bytes(seed, number, stops, cost);
-    let bytes = image.bytes;
-    let table = table(seed, number, stops);
-    let list = list(seed, number, stops, cost);
-    let present = at(&cost, place(stops, ends.0, ends.1));
-    let n = size(seed, stops);
-    let odd = odd(seed);
-    let call = Call {
+// The call with its numbers.
+fn numbered(seed: &mut u64, number: u64, stops: u64, cost: &[u32; CELLS]) -> Call {
+    let ends = ends(seed, number, stops, cost);
+    let present = at(cost, place(stops, ends.0, ends.1));
+    Call {
         number,
-        n,
+        n: size(seed, stops),
         u: ends.0,
         v: ends.1,
         cost: cost_of(seed, number, ends.0, ends.1, present),
-    };
+    }
+}
+
+// The call with its arguments, on a hall with these costs.
+pub fn ask(seed: &mut u64, number: u64, stops: u64, cost: [u32; CELLS]) -> Ask {
+    let call = numbered(seed, number, stops, &cost);
+    let image = bytes(seed, call, stops, cost);
+    let bytes = image.bytes;
+    let table = table(seed, number, stops);
+    let list = list(seed, number, stops, cost);
     Ask {
         call,
-        odd,
+        odd: odd(seed),
         list,
         cost: table,
         bytes,

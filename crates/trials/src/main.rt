@@ -1,6 +1,6 @@
 // Sequences of calls at random on halls of one to seven stops, from an empty hall or a moved one. Each
-// answer and each table is held against a book of links, the documents' rules of refusal and the slow
-// lister.
+// answer, each table and each buffer is held against a book of links, the documents' rules of refusal
+// and the slow lister.
 mod chance;
 mod choose;
 mod compare;
@@ -10,6 +10,7 @@ mod in_turn;
 mod model;
 mod old;
 mod outcome;
+mod output;
 mod places;
 mod tally;
 
@@ -17,6 +18,7 @@ use calls::answer::Answer;
 use calls::call::EDIT_LIST;
 use calls::call::EMPTY_HALL;
 use calls::call::IMAGE_CHECK;
+use calls::call::LIST_ROUTES;
 use calls::call::MOVE_OVER;
 use calls::call::WORK_OUT;
 use calls::call::is_edit;
@@ -29,6 +31,7 @@ use model::Book;
 use outcome::Ask;
 use outcome::asked;
 use places::CELLS;
+use places::byte;
 use tally::ROOM;
 use tally::add;
 
@@ -70,6 +73,26 @@ fn note_list(tally: &mut [u64; ROOM], length: usize, answer: Answer, former: Tab
     }
 }
 
+// Counts a route list: what it has, or by how much its buffer was too short.
+fn note_routes(tally: &mut [u64; ROOM], ask: Ask, stops: u64, cost: [u32; CELLS], refusal: u64) {
+    let call = ask.call;
+    let bytes = ask.bytes;
+    let list = output::written(call, stops, cost, bytes);
+    if refusal == 10 {
+        tally::add_short(tally, list.length, ask.length);
+    }
+    if refusal == 0 {
+        let uneven = output::uneven(&list.bytes);
+        tally::add_routes(
+            tally,
+            byte(&list.bytes, 0),
+            uneven,
+            call.u == call.v,
+            list.length < ask.length,
+        );
+    }
+}
+
 // Makes a call, and counts what comes of it.
 fn trial(
     tally: &mut [u64; ROOM],
@@ -91,6 +114,10 @@ fn trial(
     note(tally, ask.call.number, answer, differ, ties);
     if ask.call.number == EDIT_LIST {
         note_list(tally, ask.list.length, answer, tables, left);
+    }
+    if ask.call.number == LIST_ROUTES {
+        let cost = book.cost;
+        note_routes(tally, ask, stops, cost, answer.refusal);
     }
     State {
         book: next,

@@ -4,6 +4,7 @@ use super::image;
 use super::image::Image;
 use super::in_turn;
 use super::outcome::Ask;
+use super::output::written;
 use super::places::BYTES;
 use super::places::CELLS;
 use super::places::STOPS;
@@ -20,6 +21,7 @@ use calls::call::IMAGE_CHECK;
 use calls::call::IMAGE_READ;
 use calls::call::IMAGE_WRITE;
 use calls::call::INSERT;
+use calls::call::LIST_ROUTES;
 use calls::call::MOVE_OVER;
 use calls::call::RAISE;
 use calls::call::WORK_OUT;
@@ -142,14 +144,13 @@ fn bad_cost(call: Call) -> bool {
     65535 < call.cost
 }
 
+// A stop that the hall has not.
+fn bad_stop(call: Call) -> bool {
+    (call.n <= call.u) | (call.n <= call.v)
+}
+
 fn bad_pair(call: Call) -> bool {
-    if call.n <= call.u {
-        return true;
-    }
-    if call.n <= call.v {
-        return true;
-    }
-    call.u == call.v
+    bad_stop(call) | (call.u == call.v)
 }
 
 // A cost that does not cheapen, or does not raise, the present one.
@@ -222,11 +223,21 @@ fn image_refusal(ask: Ask) -> u64 {
     }
 }
 
-// Refusal 10 of image write.
+// Refusal 10 of the calls that write.
 fn write_refusal(ask: Ask, stops: u64, cost: [u32; CELLS]) -> u64 {
+    let call = ask.call;
     let bytes = ask.bytes;
-    let image = image::written(stops, cost, bytes);
-    if ask.length < image.length { 10 } else { 0 }
+    let output = written(call, stops, cost, bytes);
+    if ask.length < output.length { 10 } else { 0 }
+}
+
+// Refusals 4 and 10 of a route list, which may lead from a stop to itself.
+fn routes_refusal(ask: Ask, stops: u64, cost: [u32; CELLS]) -> u64 {
+    let call = ask.call;
+    if bad_stop(call) {
+        return 4;
+    }
+    write_refusal(ask, stops, cost)
 }
 
 // Refusal 12 of a list of edits.
@@ -242,6 +253,7 @@ fn held_refusal(ask: Ask, stops: u64, cost: [u32; CELLS]) -> u64 {
         AUDIT | MOVE_OVER => 0,
         EDIT_LIST => list_refusal(ask),
         IMAGE_WRITE => write_refusal(ask, stops, cost),
+        LIST_ROUTES => routes_refusal(ask, stops, cost),
         _ => edit_refusal(call, at(&cost, place(stops, call.u, call.v))),
     }
 }
@@ -308,14 +320,15 @@ fn refused(refusal: u64, ask: Ask, book: Book) -> Verdict {
     }
 }
 
-// An accepted image write.
+// An accepted call that writes.
 fn wrote(ask: Ask, stops: u64, book: Book) -> Verdict {
+    let call = ask.call;
     let buffer = ask.bytes;
     let cost = book.cost;
-    let image = image::written(stops, cost, buffer);
-    let bytes = image.bytes;
+    let output = written(call, stops, cost, buffer);
+    let bytes = output.bytes;
     let mut answer = of_number(0);
-    answer.length = image.length as u64;
+    answer.length = output.length as u64;
     Verdict {
         answer,
         book,
@@ -393,7 +406,7 @@ pub fn expect(ask: Ask, stops: u64, book: Book, wrong: bool) -> Verdict {
     let number = ask.call.number;
     match number {
         AUDIT | IMAGE_CHECK => refused(0, ask, book),
-        IMAGE_WRITE => wrote(ask, stops, book),
+        IMAGE_WRITE | LIST_ROUTES => wrote(ask, stops, book),
         EDIT_LIST => in_turn::listed(ask, stops, book),
         MOVE_OVER => moved(ask, stops, book),
         _ => changed(ask, stops, book),

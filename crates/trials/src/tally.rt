@@ -11,6 +11,7 @@ use calls::call::IMAGE_CHECK;
 use calls::call::IMAGE_READ;
 use calls::call::IMAGE_WRITE;
 use calls::call::INSERT;
+use calls::call::LIST_ROUTES;
 use calls::call::MOVE_OVER;
 use calls::call::RAISE;
 use calls::call::WORK_OUT;
@@ -70,7 +71,22 @@ const MOVES: usize = PASSING + 3;
 
 const MOST: usize = 33;
 
-pub const ROOM: usize = MOVES + MOST;
+// Accepted route lists by the number of their routes, 0 to 12.
+const ROUTES: usize = MOVES + MOST;
+
+const LISTED: usize = 13;
+
+// Those with routes of different lengths, those from a stop to itself, and those in a longer buffer; and route lists refused for a
+// single byte.
+const UNEVEN: usize = ROUTES + LISTED;
+
+const STAYING: usize = UNEVEN + 1;
+
+const LONGER: usize = UNEVEN + 2;
+
+const ONE_SHORT: usize = UNEVEN + 3;
+
+pub const ROOM: usize = UNEVEN + 4;
 
 pub fn add(tally: &mut [u64; ROOM], i: usize, x: u64) {
     if i < ROOM {
@@ -131,6 +147,21 @@ pub fn add_list(tally: &mut [u64; ROOM], length: usize, answer: Answer) {
 pub fn add_move(tally: &mut [u64; ROOM], most: u64, refusal: u64) {
     if (refusal == 0) | (refusal == 11) | (refusal == 3) & (OLD_WAYS < most) {
         add_at(tally, MOVES, most, MOST);
+    }
+}
+
+// Counts an accepted list of so many routes.
+pub fn add_routes(tally: &mut [u64; ROOM], number: u64, uneven: bool, staying: bool, longer: bool) {
+    add_at(tally, ROUTES, number, LISTED);
+    add(tally, UNEVEN, uneven as u64);
+    add(tally, STAYING, staying as u64);
+    add(tally, LONGER, longer as u64);
+}
+
+// Counts a route list of so many bytes that its buffer is too short for.
+pub fn add_short(tally: &mut [u64; ROOM], length: usize, room: usize) {
+    if length == wrapping_add_usize(room, 1) {
+        add(tally, ONE_SHORT, 1);
     }
 }
 
@@ -268,6 +299,40 @@ fn moves(tally: &[u64; ROOM]) {
     );
 }
 
+// Writes what route lists were met.
+fn routes(tally: &[u64; ROOM]) {
+    counts(
+        b"accepted route lists of 0 to 12 routes",
+        tally,
+        ROUTES,
+        ROUTES + LISTED,
+    );
+    line(
+        b"accepted route lists without a route",
+        count(tally, ROUTES),
+    );
+    line(
+        b"accepted route lists of two routes or more",
+        between(tally, ROUTES + 2, ROUTES + LISTED),
+    );
+    line(
+        b"accepted route lists with routes of different lengths",
+        count(tally, UNEVEN),
+    );
+    line(
+        b"accepted route lists from a stop to itself",
+        count(tally, STAYING),
+    );
+    line(
+        b"accepted route lists in a longer buffer",
+        count(tally, LONGER),
+    );
+    line(
+        b"route lists refused for a single byte",
+        count(tally, ONE_SHORT),
+    );
+}
+
 pub fn write(tally: &[u64; ROOM]) {
     line(b"sequences", count(tally, SEQUENCES));
     line(b"sequences from moved halls", count(tally, MOVED));
@@ -293,9 +358,11 @@ pub fn write(tally: &[u64; ROOM]) {
     refusals_of(b"image write", tally, IMAGE_WRITE);
     refusals_of(b"image read", tally, IMAGE_READ);
     refusals_of(b"move over", tally, MOVE_OVER);
+    refusals_of(b"route list", tally, LIST_ROUTES);
     refusals_of(b"image check", tally, IMAGE_CHECK);
     lists(tally);
     moves(tally);
+    routes(tally);
     line(b"differences", count(tally, DIFFERENCES));
     line(b"first in answer", count(tally, FIRST));
 }

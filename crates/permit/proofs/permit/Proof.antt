@@ -29,43 +29,43 @@ returns c =
     let bad : validPair (a .n) (a .e .u) (a .e .v) ≡ false = sym (is-pair .is-pair .ensures) ∙ not-true _ (c .if1 .taken) in
     rw bad
 
-link-cost-requires : tie.Need-link-cost-requires
-link-cost-requires c κs =
+read-entry-requires : tie.Need-read-entry-requires
+read-entry-requires c κs =
     let entry : tie.Start = search in
     (stops c .0, stops c .1, entry .pre .0, entry .pre .1)
 
 returns-2 : tie.Need-returns-2
 returns-2 c =
-    let enum-told : tie.After-enum-told = search in let link-cost : tie.After-link-cost = search in
+    let enum-told : tie.After-enum-told = search in let read-entry : tie.After-read-entry = search in
     let if1 : tie.Else1 = search in let entry : tie.Start = search in
     let a = entry .args in
-    by-kind (a .n) (a .e) (a .cost .now) (pair if1) (enum-told .enum-told .given .1) (link-cost .link-cost .ensures) (c .permit-insert .ensures)
+    by-kind (a .n) (a .e) (a .cost .now) (pair if1) (enum-told .enum-told .given .1) (read-entry .read-entry .ensures) (c .permit-insert .ensures)
 
 returns-3 : tie.Need-returns-3
 returns-3 c =
-    let enum-told2 : tie.After-enum-told2 = search in let link-cost : tie.After-link-cost = search in
+    let enum-told2 : tie.After-enum-told2 = search in let read-entry : tie.After-read-entry = search in
     let if1 : tie.Else1 = search in let entry : tie.Start = search in
     let a = entry .args in
-    by-kind (a .n) (a .e) (a .cost .now) (pair if1) (enum-told2 .enum-told2 .given .1) (link-cost .link-cost .ensures) (c .permit-cheapen .ensures)
+    by-kind (a .n) (a .e) (a .cost .now) (pair if1) (enum-told2 .enum-told2 .given .1) (read-entry .read-entry .ensures) (c .permit-cheapen .ensures)
 
 returns-4 : tie.Need-returns-4
 returns-4 c =
-    let enum-told3 : tie.After-enum-told3 = search in let link-cost : tie.After-link-cost = search in
+    let enum-told3 : tie.After-enum-told3 = search in let read-entry : tie.After-read-entry = search in
     let if1 : tie.Else1 = search in let entry : tie.Start = search in
     let a = entry .args in
-    by-kind (a .n) (a .e) (a .cost .now) (pair if1) (enum-told3 .enum-told3 .given .1) (link-cost .link-cost .ensures) (c .permit-raise .ensures)
+    by-kind (a .n) (a .e) (a .cost .now) (pair if1) (enum-told3 .enum-told3 .given .1) (read-entry .read-entry .ensures) (c .permit-raise .ensures)
 
 returns-5 : tie.Need-returns-5
 returns-5 c =
-    let enum-told4 : tie.After-enum-told4 = search in let link-cost : tie.After-link-cost = search in
+    let enum-told4 : tie.After-enum-told4 = search in let read-entry : tie.After-read-entry = search in
     let if1 : tie.Else1 = search in let entry : tie.Start = search in
     let a = entry .args in
-    by-kind (a .n) (a .e) (a .cost .now) (pair if1) (enum-told4 .enum-told4 .given .1) (link-cost .link-cost .ensures) (c .permit-delete .ensures)
+    by-kind (a .n) (a .e) (a .cost .now) (pair if1) (enum-told4 .enum-told4 .given .1) (read-entry .read-entry .ensures) (c .permit-delete .ensures)
 
 pub permit-spec : {M : Type 1} → statement M
 permit-spec =
     tie.close
     (tie.spec
-    (λ c κs. search needs) returns link-cost-requires (λ c. search needs)
+    (λ c κs. search needs) returns read-entry-requires (λ c. search needs)
     (λ c κs. search needs) (λ c. search needs) (λ c κs. search needs) (λ c. search needs) (λ c κs. search needs)
     (λ c. search needs) (λ c κs. search needs) returns-2 returns-3 returns-4 returns-5)

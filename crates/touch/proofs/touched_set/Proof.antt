@@ -12,8 +12,8 @@ touched-sources-requires c κs =
 
 returns : tie.Need-returns
 returns c =
-    let dearer : tie.After-dearer = search in let link-cost : tie.After-link-cost = search in
-    record { found = c .touched-sources .ensures ∙ rw (dearer .dearer .ensures, link-cost .link-cost .ensures) }
+    let dearer : tie.After-dearer = search in let read-entry : tie.After-read-entry = search in
+    record { found = c .touched-sources .ensures ∙ rw (dearer .dearer .ensures, read-entry .read-entry .ensures) }
 
 pub touched-set-spec : {M : Type 1} → statement M
 touched-set-spec =

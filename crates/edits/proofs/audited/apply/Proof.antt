@@ -10,8 +10,8 @@ use Rattle.changes.proofs.Applying.{shares-applied, not-applied, applied}
 use Rattle.edits.proofs.audited.apply.Statement.{statement}
 use Rattle.edits.proofs.audited.apply.Tie as tie
 
-link-cost-requires : tie.Need-link-cost-requires
-link-cost-requires c κs =
+read-entry-requires : tie.Need-read-entry-requires
+read-entry-requires c κs =
     let start : tie.Start = search in
     let h = start .pre .1 .0 in
     (h .from, h .to, h .most, h .square)
@@ -46,7 +46,7 @@ sum-scores-requires c κs =
 returns-2 : tie.Need-returns-2
 returns-2 c =
     let start : tie.Start = (let c : tie.After-try-cost = search in search) in
-    let before = (let c : tie.After-try-cost = search in let p : tie.After-link-cost = search in p .link-cost) in
+    let before = (let c : tie.After-try-cost = search in let p : tie.After-read-entry = search in p .read-entry) in
     let touched = (let c : tie.After-try-cost = search in let p : tie.After-touched-set = search in p .touched-set) in
     let try-cost = (let p : tie.After-try-cost = search in p .try-cost) in
     let if1 : tie.Else1 = search in let sum-scores : tie.After-sum-scores = search in
@@ -60,6 +60,6 @@ pub apply-spec : {M : Type 1} → statement M
 apply-spec =
     tie.close
     (tie.spec
-    link-cost-requires touched-set-requires (λ c κs. search needs) (λ c κs. search needs) (λ c. search needs) (λ c. search needs)
+    read-entry-requires touched-set-requires (λ c κs. search needs) (λ c κs. search needs) (λ c. search needs) (λ c. search needs)
     (λ c. search needs) (λ c. search needs) returns sum-scores-requires (λ c. search needs) (λ c. search needs)
     (λ c. search needs) (λ c. search needs) (λ c. search needs) returns-2)

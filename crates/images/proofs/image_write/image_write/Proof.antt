@@ -1,20 +1,18 @@
 -- `image_write::image_write`: the audit, and the image behind it.
 use borrow.Author.Needs.{needs}
 use mathlib.Core.Path.{refl}
-use Rattle.book.specs.Call.{rule}
 use Rattle.routes.proofs.Booleans.{failed, held}
 use Rattle.book.proofs.Filled.{right-true}
 use Rattle.book.proofs.Sizes.{stops, lengths}
-use Rattle.book.proofs.Doors.{audit-passed, audit-refused}
-use Rattle.images.proofs.Writer.{write-stored}
+use Rattle.book.proofs.Doors.{audit-passed}
+use Rattle.book.proofs.Buffers.{image-writes, write-refused, write-stored}
 use Rattle.images.proofs.image_write.image_write.Statement.{statement}
 use Rattle.images.proofs.image_write.image_write.Tie as tie
 
 returns : tie.Need-returns
-unfolding rule
 returns c =
     let if1 : tie.Then1 = search in let passes : tie.After-passes = search in let audit : tie.After-audit = search in
-    audit-refused _ _ (λ s. refl) refl _ (audit .audit .ensures) (failed (passes .passes .ensures) (if1 .if1 .taken))
+    write-refused (image-writes _ _ _) _ (audit .audit .ensures) (failed (passes .passes .ensures) (if1 .if1 .taken))
 
 store-requires : tie.Need-store-requires
 store-requires c κs =
@@ -26,7 +24,7 @@ returns-2 : tie.Need-returns-2
 returns-2 c =
     let store : tie.After-store = search in let if1 : tie.Else1 = search in
     let passes : tie.After-passes = search in let audit : tie.After-audit = search in
-    write-stored _ _ _ (audit-passed _ _ (audit .audit .ensures) (held (passes .passes .ensures) (if1 .if1 .left))) (store .store .ensures)
+    write-stored (image-writes _ _ _) (audit-passed _ _ (audit .audit .ensures) (held (passes .passes .ensures) (if1 .if1 .left))) refl (store .store .ensures)
 
 pub image-write-spec : {M : Type 1} → statement M
 image-write-spec =

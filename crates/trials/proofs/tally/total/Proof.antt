@@ -5,10 +5,10 @@ use Rattle.trials.proofs.tally.total.Statement.{statement}
 use Rattle.trials.proofs.tally.total.Tie as tie
 
 abbrev Inv-loop : tie.InvT-loop
-Inv-loop tally refusal sum₀ call₀ sum call = call ≤ 12
+Inv-loop tally refusal sum₀ call₀ sum call = call ≤ 13
 
 abbrev μ-loop : tie.MeasureT-loop
-μ-loop tally refusal sum₀ call₀ sum call = 12 - call
+μ-loop tally refusal sum₀ call₀ sum call = 13 - call
 
 pub total-spec : {M : Type 1} → statement M
 total-spec =
