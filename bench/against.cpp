@@ -1,12 +1,14 @@
 // Work out, audit and edit of an older library beside those of this one, in one process and on the same halls, by the functions of
 // calls.c with `old_` and `new_` before their names. Times are the least of many runs, taken in turn; for each hall a line with the
-// times of both, and whether the tables agree. An older library with another scale has its tables moved over before they are compared.
+// times of both, and whether the tables agree. Passing times are 0, as in an older library that is lent none. One with another scale has
+// its tables moved over before they are compared.
+#include "calls.h"
 #include "halls.h"
 
 using Scale = uint64_t();
-using Whole = uint32_t(hall_tables);
-using Insert = uint32_t(hall_tables, uint64_t from, uint64_t to, uint64_t c);
-using Delete = uint32_t(hall_tables, uint64_t from, uint64_t to);
+using Whole = uint32_t(lent_tables);
+using Insert = uint32_t(lent_tables, uint64_t from, uint64_t to, uint64_t c);
+using Delete = uint32_t(lent_tables, uint64_t from, uint64_t to);
 
 extern "C" {
 Scale old_call_scale, new_call_scale;
@@ -26,24 +28,28 @@ struct Calls {
 static const Calls OLD = {old_call_work_out, old_call_audit, old_call_insert, old_call_delete};
 static const Calls NEW = {new_call_work_out, new_call_audit, new_call_insert, new_call_delete};
 
+static lent_tables lent(Hall &h) {
+    return {h.n, h.cost.data(), h.passing.data(), h.time.data(), h.ways.data(), h.share.data(), h.score.data()};
+}
+
 struct Times {
     double work_out = 1e300, audit = 1e300, edits = 0;
 };
 
 static void whole(const Calls &calls, Hall &h, Times &best) {
-    hall_tables t = h.tables();
+    lent_tables t = lent(h);
     best.work_out = std::min(best.work_out, least_time(20, [&] { calls.work_out(t); }));
     best.audit = std::min(best.audit, least_time(20, [&] { calls.audit(t); }));
 }
 
 static bool same_tables(const Hall &a, const Hall &b) {
-    return a.cost == b.cost && a.time == b.time && a.ways == b.ways && a.share == b.share && a.score == b.score;
+    return a.cost == b.cost && a.passing == b.passing && a.time == b.time && a.ways == b.ways && a.share == b.share && a.score == b.score;
 }
 
 // The delete of a link and its insert again, with the shares and scores of the library's own scale put in place before: keeps their
 // least time so far, and says whether both were accepted and left the tables as worked out.
 static bool edit(const Calls &calls, Hall &h, const Hall &worked, const Link &l, double &least) {
-    hall_tables t = h.tables();
+    lent_tables t = lent(h);
     uint32_t out = 0, in = 0;
     h.share = worked.share;
     h.score = worked.score;
@@ -72,12 +78,12 @@ static bool edits(const Hall &by_old, const Hall &by_new, const std::vector<Link
 // Moves tables over where the older library has another scale.
 static bool moved(Hall &h) {
     hall_tables t = h.tables();
-    return old_call_scale() == new_call_scale() || new_hall_move_over(t.n, HALL_TABLES(t)) == HALL_ACCEPTED;
+    return old_call_scale() == new_call_scale() || new_hall_move_over(t.n, HALL_OLD_TABLES(t)) == HALL_ACCEPTED;
 }
 
 static int measure(const std::string &name, Hall h, std::mt19937 &random) {
     Hall other = h;
-    if (NEW.work_out(h.tables()) != HALL_ACCEPTED || OLD.work_out(other.tables()) != HALL_ACCEPTED) return 1;
+    if (NEW.work_out(lent(h)) != HALL_ACCEPTED || OLD.work_out(lent(other)) != HALL_ACCEPTED) return 1;
     Times old, now;
     for (int round = 0; round < 50; round++) {
         whole(OLD, h, old);

@@ -1,9 +1,11 @@
 // Work out, audit and edit of the proved library beside Boost's and igraph's betweenness, in one process and on the same
 // graphs; a raise beside the delete and the insert that said the same before there was one; a list of eight edits beside the same
-// eight one by one; and the moving call on the same hall by the old numbers. Behind them a list of routes beside an audit of the same
-// hall, and beside igraph's. Times are the least of many runs, taken in turn; ratios are theirs, or those of the two edits, divided by
-// ours, for lists the list divided by the single edits, for the moving call its time divided by that of an audit and of a work out, and
-// for a list of routes its time, with the audit that it makes, divided by that of an audit.
+// eight one by one; and the moving call on the same hall by the old numbers. Behind them work out, audit and edit of the same halls with
+// passing times beside those without, and a list of routes beside an audit of the same hall, and beside igraph's. Times are the least of
+// many runs, taken in turn; ratios are theirs, or those of the two edits, divided by ours, for lists the list divided by the single
+// edits, for the moving call its time divided by that of an audit and of a work out, for passing times the time with them divided by that
+// without, and for a list of routes its time, with the audit that it makes, divided by that of an audit. Boost and igraph know no passing
+// times; they are in the weights of their links (`weight`, halls.h).
 #include "halls.h"
 
 #include <boost/graph/adjacency_list.hpp>
@@ -20,7 +22,7 @@ struct Boost {
     std::vector<double> scores;
 
     explicit Boost(const Hall &h) : graph(h.n), scores(h.n) {
-        for (const Link &l : links_of(h)) boost::add_edge(l.from, l.to, l.cost, graph);
+        for (const Link &l : links_of(h)) boost::add_edge(l.from, l.to, weight(h, l), graph);
     }
     void run() {
         auto index = boost::get(boost::vertex_index, graph);
@@ -43,7 +45,7 @@ struct Igraph {
         for (const Link &l : links) {
             igraph_vector_int_push_back(&ends, l.from);
             igraph_vector_int_push_back(&ends, l.to);
-            igraph_vector_push_back(&weights, l.cost);
+            igraph_vector_push_back(&weights, weight(h, l));
         }
         igraph_create(&graph, &ends, h.n, IGRAPH_DIRECTED);
         igraph_vector_int_destroy(&ends);
@@ -77,6 +79,13 @@ static bool agrees(const Hall &h, const std::function<double(size_t)> &theirs) {
         if (std::fabs(ours - theirs(v)) > 1e-6 * (1 + ours)) return false;
     }
     return true;
+}
+
+// Runs both, and says whether their scores are ours.
+static bool agrees(const Hall &h, Boost &boost, Igraph &igraph) {
+    boost.run();
+    igraph.run();
+    return agrees(h, [&](size_t v) { return boost.scores[v]; }) && agrees(h, [&](size_t v) { return VECTOR(igraph.scores)[v]; });
 }
 
 static size_t useful_links(const Hall &h) {
@@ -202,6 +211,14 @@ static bool moved(Hall &h, const Hall &old, const Hall &anew, double &least) {
     return same;
 }
 
+// At most 64 links of a hall, at random.
+static std::vector<Link> some_links(const Hall &h, std::mt19937 &random) {
+    std::vector<Link> links = links_of(h);
+    std::shuffle(links.begin(), links.end(), random);
+    if (links.size() > 64) links.resize(64);
+    return links;
+}
+
 static int measure(const std::string &name, Hall h, std::mt19937 &random) {
     if (h.work_out() != HALL_ACCEPTED) {
         std::printf("%-28s refused\n", name.c_str());
@@ -209,10 +226,7 @@ static int measure(const std::string &name, Hall h, std::mt19937 &random) {
     }
     Boost boost(h);
     Igraph igraph(h);
-    boost.run();
-    igraph.run();
-    bool same = agrees(h, [&](size_t v) { return boost.scores[v]; }) &&
-                agrees(h, [&](size_t v) { return VECTOR(igraph.scores)[v]; });
+    bool same = agrees(h, boost, igraph);
 
     const Hall anew = h, old = old_tables(h);
     double ours = 1e300, audit = 1e300, move = 1e300, theirs = 1e300, others = 1e300;
@@ -224,9 +238,7 @@ static int measure(const std::string &name, Hall h, std::mt19937 &random) {
         others = std::min(others, least_time(10, [&] { igraph.run(); }));
     }
 
-    std::vector<Link> links = links_of(h);
-    std::shuffle(links.begin(), links.end(), random);
-    if (links.size() > 64) links.resize(64);
+    std::vector<Link> links = some_links(h, random);
     std::vector<uint32_t> costs = h.cost;
     Edits e = edits(h, links);
     Slower s = slower(h, links);
@@ -238,6 +250,61 @@ static int measure(const std::string &name, Hall h, std::mt19937 &random) {
                 name.c_str(), links_of(h).size(), useful_links(h), ours, audit, e.edit, e.rows, s.raise, theirs / ours, others / ours,
                 theirs / audit, theirs / e.edit, others / e.edit, s.two / s.raise, l.list, l.list / l.single, move, move / audit, move / ours,
                 same ? "agree" : "DIFFER");
+    return same ? 0 : 1;
+}
+
+// Work out, audit and edit of one hall.
+struct Times {
+    double work_out = 1e300, audit = 1e300;
+    Edits edits;
+};
+
+static void whole(Hall &h, Times &best) {
+    best.work_out = std::min(best.work_out, least_time(50, [&] { h.work_out(); }));
+    best.audit = std::min(best.audit, least_time(50, [&] { h.audit(); }));
+}
+
+// Means over the links, each in turn in both halls. A link that one of them does not let go is left out in both.
+static void edits_of_both(Hall &a, Hall &b, const std::vector<Link> &links, Edits &of_a, Edits &of_b) {
+    uint64_t count = 0;
+    for (const Link &l : links) {
+        Edits in_a = edits(a, {l}), in_b = edits(b, {l});
+        if (in_a.edit == 0 || in_b.edit == 0) continue;
+        of_a = {of_a.edit + in_a.edit, of_a.rows + in_a.rows};
+        of_b = {of_b.edit + in_b.edit, of_b.rows + in_b.rows};
+        count++;
+    }
+    for (Edits *sum : {&of_a, &of_b})
+        if (count) *sum = {sum->edit / count, sum->rows / count};
+}
+
+// A hall and the one with the same links and passing times. Other routes are quickest there, so the times differ by the hall too.
+static int measure_passing(const std::string &name, Hall bare, Hall passed, std::mt19937 &random) {
+    if (bare.work_out() != HALL_ACCEPTED || passed.work_out() != HALL_ACCEPTED) {
+        std::printf("%-28s refused\n", name.c_str());
+        return 1;
+    }
+    Boost boost(passed);
+    Igraph igraph(passed);
+    bool same = agrees(passed, boost, igraph);
+    const Hall anew = passed;
+
+    Times without, with;
+    double theirs = 1e300;
+    for (int round = 0; round < 20; round++) {
+        whole(bare, without);
+        whole(passed, with);
+        theirs = std::min(theirs, least_time(10, [&] { boost.run(); }));
+    }
+    edits_of_both(bare, passed, some_links(bare, random), without.edits, with.edits);
+    same = same && passed.cost == anew.cost && passed.passing == anew.passing && passed.score == anew.score &&
+           passed.audit() == HALL_ACCEPTED && bare.audit() == HALL_ACCEPTED;
+
+    std::printf("%-28s %5zu %7zu %6zu | %8.1f %8.1f %8.1f %5.1f | %8.1f %8.1f %8.1f %5.1f | %8.2f %6.2f %6.2f | %6.2f | %s\n",
+                name.c_str(), links_of(bare).size(), useful_links(bare), useful_links(passed), without.work_out, without.audit,
+                without.edits.edit, without.edits.rows, with.work_out, with.audit, with.edits.edit, with.edits.rows,
+                with.work_out / without.work_out, with.audit / without.audit, with.edits.edit / without.edits.edit,
+                theirs / with.work_out, same ? "agree" : "DIFFER");
     return same ? 0 : 1;
 }
 
@@ -281,12 +348,24 @@ static void write_links(const char *path, const Hall &h) {
     if (!f) return;
     std::fprintf(f, "%llu\n", (unsigned long long)h.n);
     for (const Link &l : links_of(h))
-        std::fprintf(f, "%llu %llu %u\n", (unsigned long long)l.from, (unsigned long long)l.to, l.cost);
+        std::fprintf(f, "%llu %llu %u\n", (unsigned long long)l.from, (unsigned long long)l.to, weight(h, l));
     std::fclose(f);
 }
 
+// A hall of the family, and the longest passing time that its stops may get.
+struct Named {
+    std::string name;
+    Hall hall;
+    uint32_t most;
+};
+
 int main(int argc, char **argv) {
     std::mt19937 random(7);
+    std::vector<Named> family;
+    auto run = [&](const std::string &name, const Hall &h, uint32_t most) {
+        family.push_back({name, h, most});
+        return measure(name, h, random);
+    };
     std::printf("%-28s %5s %6s | %8s %8s %8s %5s %8s | %6s %6s | %6s | %6s %6s | %8s | %8s %6s | %8s %6s %6s |\n", "hall", "links",
                 "useful", "work out", "audit", "edit", "rows", "raise", "Boost", "igraph", "Boost", "Boost", "igraph", "2 edits", "list",
                 "list", "move", "move", "move");
@@ -296,11 +375,17 @@ int main(int argc, char **argv) {
     for (size_t links : {128, 256, 1024, 4032}) {
         Hall h = random_hall(64, links, random);
         if (argc > 1) write_links((std::string(argv[1]) + "/random" + std::to_string(links)).c_str(), h);
-        bad += measure("64 stops, random", h, random);
+        bad += run("64 stops, random", h, HALL_LARGEST_PASSING);
     }
-    bad += measure("8 x 8 two-way grid", grid(8, random), random);
-    bad += measure("64 stops, ring and bypasses", ring(64, random), random);
-    bad += measure("16 stops, random", random_hall(16, 40, random), random);
+    bad += run("8 x 8 two-way grid", grid(8, random), HALL_LARGEST_PASSING);
+    bad += run("64 stops, ring and bypasses", ring(64, random), 200);
+    bad += run("16 stops, random", random_hall(16, 40, random), HALL_LARGEST_PASSING);
+
+    std::printf("\n%-28s %5s %14s | %32s | %32s | %22s | %6s |\n", "with passing times", "links", "useful", "without", "with",
+                "with / without", "Boost");
+    std::printf("%-28s %5s %7s %6s | %8s %8s %8s %5s | %8s %8s %8s %5s | %8s %6s %6s | %6s |\n", "", "", "without", "with", "work out",
+                "audit", "edit", "rows", "work out", "audit", "edit", "rows", "work out", "audit", "edit", "/ w.o.");
+    for (const Named &f : family) bad += measure_passing(f.name, f.hall, with_passing(f.hall, f.most, random), random);
 
     std::printf("\n%-28s %5s %6s %6s | %8s %8s %6s | %6s |\n", "routes, first to last stop", "links", "routes", "bytes", "audit", "list",
                 "list", "igraph");
@@ -309,5 +394,6 @@ int main(int argc, char **argv) {
     bad += measure_list("12 ways at its beginning", twelve_ways(64, 0));
     bad += measure_list("12 ways at its end", twelve_ways(64, 56));
     bad += measure_list("at its beginning, all links", all_links(twelve_ways(64, 0)));
+    bad += measure_list("at its beginning, passing", twelve_ways(64, 0, 1));
     return bad ? 1 : 0;
 }

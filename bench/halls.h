@@ -12,15 +12,16 @@
 
 using Clock = std::chrono::steady_clock;
 
+// Passing times are 0 at first.
 struct Hall {
     uint64_t n;
-    std::vector<uint32_t> cost, time, ways;
+    std::vector<uint32_t> cost, passing, time, ways;
     std::vector<uint64_t> share, score;
 
     explicit Hall(uint64_t stops)
-        : n(stops), cost(n * n), time(n * n), ways(n * n), share(n * n), score(n) {}
+        : n(stops), cost(n * n), passing(n), time(n * n), ways(n * n), share(n * n), score(n) {}
 
-    hall_tables tables() { return {n, cost.data(), time.data(), ways.data(), share.data(), score.data()}; }
+    hall_tables tables() { return {n, cost.data(), passing.data(), time.data(), ways.data(), share.data(), score.data()}; }
 
     uint32_t work_out() {
         hall_tables t = tables();
@@ -32,7 +33,7 @@ struct Hall {
     }
     uint32_t move_over() {
         hall_tables t = tables();
-        return hall_move_over(n, HALL_TABLES(t));
+        return hall_move_over(n, HALL_OLD_TABLES(t));
     }
     hall_edited insert(uint64_t u, uint64_t v, uint64_t c) {
         hall_tables t = tables();
@@ -72,6 +73,11 @@ inline std::vector<Link> links_of(const Hall &h) {
             if (h.cost[u * h.n + v]) links.push_back({u, v, h.cost[u * h.n + v]});
     return links;
 }
+
+// What a link weighs in a graph that has no passing times: its cost, and the passing time of the stop that it leaves. The weights of a
+// route add up to its time and the passing time of the stop where it begins, which is the same for all routes from there. So the
+// shortest paths of these weights are the quickest routes, and their betweenness is that of the hall, exactly.
+inline uint32_t weight(const Hall &h, const Link &l) { return l.cost + h.passing[l.from]; }
 
 // Microseconds of one run.
 inline double time_of(const std::function<void()> &run) {
@@ -122,16 +128,25 @@ inline Hall ring(uint64_t n, std::mt19937 &random) {
     return h;
 }
 
+// The same links, and a passing time of up to `most` at each stop.
+inline Hall with_passing(Hall h, uint32_t most, std::mt19937 &random) {
+    std::uniform_int_distribution<uint32_t> passing(0, most);
+    for (uint32_t &time : h.passing) time = passing(random);
+    return h;
+}
+
 inline Hall line(uint64_t n) {
     Hall h(n);
     for (uint64_t u = 0; u + 1 < n; u++) h.cost[u * n + u + 1] = 1;
     return h;
 }
 
-// A line with four links past a stop, from stop `at` on: 2 times 2 times 3 quickest routes. No 12 routes have a longer list.
-inline Hall twelve_ways(uint64_t n, uint64_t at) {
+// A line with four links past a stop, from stop `at` on, each as slow as the way over that stop, with the same passing time everywhere:
+// 2 times 2 times 3 quickest routes. No 12 routes have a longer list.
+inline Hall twelve_ways(uint64_t n, uint64_t at, uint32_t passing = 0) {
     Hall h = line(n);
-    for (uint64_t u : {at, at + 2, at + 4, at + 5}) h.cost[u * n + u + 2] = 2;
+    std::fill(h.passing.begin(), h.passing.end(), passing);
+    for (uint64_t u : {at, at + 2, at + 4, at + 5}) h.cost[u * n + u + 2] = 2 + passing;
     return h;
 }
 

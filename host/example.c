@@ -1,6 +1,6 @@
 /* A small hall from a C host: built, edited, scored, its routes listed, written as an image and read back, with refusals shown, edits
- * reversed and a shift changed in one go; then one that an older release left, moved over, and a line of 64 stops. What it prints
- * stands in example.out. */
+ * reversed and a shift changed in one go; then one whose racks take time at a junction, one that an older release left, moved over, and
+ * a line of 64 stops. What it prints stands in example.out. */
 #include "hall.h"
 
 #include <inttypes.h>
@@ -25,16 +25,17 @@ static const char *words(uint32_t refusal)
     case HALL_SHORT_BUFFER: return "the buffer is too short";
     case HALL_TOO_MANY_WAYS: return "a pair would have too many ways";
     case HALL_LIST_TOO_LONG: return "the list is too long";
+    case HALL_BAD_PASSING: return "a passing time is too long";
     case HALL_NO_KIND: return "no such kind of edit";
     }
     return "not a refusal";
 }
 
-/* The host owns the tables: one block for those of 32 bits, one for those of 64. */
+/* The host owns the tables: one block for those of 32 bits, one for those of 64. Each passing time is 0 at first. */
 static hall_tables make_tables(uint64_t n)
 {
     size_t cells = n * n;
-    uint32_t *narrow = (uint32_t *)malloc(3 * cells * sizeof *narrow);
+    uint32_t *narrow = (uint32_t *)malloc((3 * cells + n) * sizeof *narrow);
     uint64_t *wide = (uint64_t *)malloc((cells + n) * sizeof *wide);
     hall_tables t;
 
@@ -46,8 +47,10 @@ static hall_tables make_tables(uint64_t n)
     t.cost = narrow;
     t.time = narrow + cells;
     t.ways = narrow + 2 * cells;
+    t.passing = narrow + 3 * cells;
     t.share = wide;
     t.score = wide + cells;
+    memset(t.passing, 0, n * sizeof *t.passing);
     return t;
 }
 
@@ -58,7 +61,7 @@ static void free_tables(hall_tables t)
 }
 
 /* Tables of make_tables lie in two blocks, from cost and from share on, of so many bytes. */
-static size_t narrow_bytes(hall_tables t) { return 3 * t.n * t.n * sizeof *t.cost; }
+static size_t narrow_bytes(hall_tables t) { return (3 * t.n * t.n + t.n) * sizeof *t.cost; }
 
 static size_t wide_bytes(hall_tables t) { return (t.n * t.n + t.n) * sizeof *t.share; }
 
@@ -83,7 +86,7 @@ static inline uint32_t work_out(const hall_tables *t) { return hall_work_out(t->
 
 static inline uint32_t audit(const hall_tables *t) { return hall_audit(t->n, HALL_TABLES(*t)); }
 
-static inline uint32_t move_over(const hall_tables *t) { return hall_move_over(t->n, HALL_TABLES(*t)); }
+static inline uint32_t move_over(const hall_tables *t) { return hall_move_over(t->n, HALL_OLD_TABLES(*t)); }
 
 static inline hall_edited insert(const hall_tables *t, uint64_t from, uint64_t to, uint64_t c)
 {
@@ -307,8 +310,71 @@ static int small_hall(void)
     return routes && same && back && shifts && refusal == HALL_ACCEPTED;
 }
 
-/* The tables that an older release left of the hall above before its first cheapen: two ways from 0 to 3. Shares and scores are by
- * the old scale, half of 232,792,560 for the stop between. */
+/* Gives a stop another passing time, which is set right before a work out and set back if that is refused. */
+static uint32_t set_passing(const hall_tables *t, uint64_t stop, uint32_t passing)
+{
+    uint32_t before = t->passing[stop], refusal;
+
+    t->passing[stop] = passing;
+    refusal = work_out(t);
+    if (refusal != HALL_ACCEPTED)
+        t->passing[stop] = before;
+    return refusal;
+}
+
+/* Reads the hall's image over the tables of another with the same passing times. Says whether they are the same then. */
+static int kept_with_passing(const hall_tables *hall)
+{
+    uint8_t image[HALL_LONGEST_IMAGE];
+    hall_tables copy = make_tables(hall->n);
+    hall_written w = image_write(hall, image, sizeof image);
+    int same;
+
+    memcpy(copy.passing, hall->passing, hall->n * sizeof *hall->passing);
+    print_call("image read, same passing times", image_read(&copy, image, w.length));
+    same = same_tables(*hall, copy);
+    printf("read back: %s\n", same ? "same tables" : "OTHER TABLES");
+    free_tables(copy);
+    return same;
+}
+
+/* From 0 to 3 the way over 1 takes 10, that over 2 takes 12. Racks are weighed and turned at 1: if that takes 2, both ways are quickest,
+ * and if it takes 3, only the one over 2 is. A route that begins at 1 takes as long as before. Says whether the hall that was read back is
+ * the one that was written, and refused passing times have left the tables as they were. */
+static int weighed_racks(void)
+{
+    const hall_edit links[] = {{HALL_INSERT, 0, 1, 5}, {HALL_INSERT, 1, 3, 5}, {HALL_INSERT, 0, 2, 6}, {HALL_INSERT, 2, 3, 6}};
+    hall_tables hall = make_tables(4);
+    uint8_t list[HALL_LONGEST_ROUTE_LIST];
+    hall_written w;
+    uint32_t refusal;
+    int same;
+
+    print_call("empty hall", empty(&hall));
+    print_list("four links", edit_list(&hall, links, 4));
+    print_scores(&hall);
+    print_call("2 to pass stop 1", set_passing(&hall, 1, 2));
+    print_scores(&hall);
+    print_call("3 to pass stop 1", set_passing(&hall, 1, 3));
+    print_scores(&hall);
+    printf("time 0 to 3: %" PRIu32 ", 1 to 3: %" PRIu32 "\n", hall.time[0 * 4 + 3], hall.time[1 * 4 + 3]);
+    w = list_routes(&hall, 0, 3, list, sizeof list);
+    print_routes("routes 0 3", w, list);
+    same = kept_with_passing(&hall);
+
+    /* A passing time that changes at another time is found by the next call. */
+    hall.passing[1] = 2;
+    print_edit("delete 2 3, other passing time", delete_link(&hall, 2, 3));
+    hall.passing[1] = 3;
+    print_call("65536 to pass stop 1", set_passing(&hall, 1, HALL_LARGEST_PASSING + 1));
+    refusal = audit(&hall);
+    print_call("audit", refusal);
+    free_tables(hall);
+    return same && refusal == HALL_ACCEPTED;
+}
+
+/* The tables that an older release left of the first hall before its first cheapen: two ways from 0 to 3. Shares and scores are by the
+ * old scale, half of 232,792,560 for the stop between. It had no passing times: they start with 0. */
 static hall_tables old_tables(void)
 {
     static const uint32_t cost[] = {0, 5, 5, 0, 0, 0, 0, 5, 0, 0, 0, 5, 0, 0, 0, 0};
@@ -363,7 +429,7 @@ static int long_line(void)
 
 int main(void)
 {
-    int small = small_hall(), moved = moved_hall(), line = long_line();
+    int small = small_hall(), weighed = weighed_racks(), moved = moved_hall(), line = long_line();
 
-    return small && moved && line ? 0 : 1;
+    return small && weighed && moved && line ? 0 : 1;
 }

@@ -5,10 +5,11 @@
  * Exact scores for a hall of stops.
  *
  * A hall has n stops, 0 to n - 1, with n from 1 to 64, and one-way links
- * between them, each with a cost (its travel time) from 1 to 65,535. A stop's
- * score is its share of the quickest routes between all other stops, times
- * HALL_SCALE, which makes it a whole number. No score passes 108,274,320, so
- * that it fits 32 bits. The calls below fill five tables of a hall, keep them
+ * between them, each with a cost (its travel time) from 1 to 65,535. Each stop
+ * has a passing time from 0 to 65,535, which a route spends there on its way. A
+ * stop's score is its share of the quickest routes between all other stops,
+ * times HALL_SCALE, which makes it a whole number. No score passes 108,274,320,
+ * so that it fits 32 bits. The calls below fill five tables of a hall, keep them
  * right through edits of its links, list the quickest routes between two stops,
  * and turn the links into bytes, an image, and back. One call moves tables of
  * an older scale over to this one.
@@ -26,13 +27,14 @@
  * nothing back and leaves errno alone.
  *
  * A call needs at most HALL_STACK bytes of stack, 96 KiB. Measured: image read
- * 83 KiB, work out 69 KiB, a list of routes 22 KiB, a list of edits 5 KiB, all
+ * 83 KiB, work out 67 KiB, a list of routes 25 KiB, a list of edits 5 KiB, all
  * others below 4 KiB; the rest is a margin, for the dynamic linker at the first
  * call among others.
  *
  * The library is proved; that this header fits it is not. `make -C host check`
  * tries it. The two go together: compile a host anew for another release of
- * the library, whose answers may have grown, or whose scale is another.
+ * the library, whose calls may be lent more, whose answers may have grown, or
+ * whose scale is another.
  *
  *
  * MEMORY
@@ -41,14 +43,16 @@
  * call allocates nothing and keeps no pointer. Each table is passed as a
  * pointer and the number of its entries:
  *
- *   cost   n x n, 32 bits   cost of the link u to v at u * n + v, 0 for none
- *   time   n x n, 32 bits   least time s to t at s * n + t, HALL_MARK where
- *                           there is no route
- *   ways   n x n, 32 bits   number of quickest routes s to t
- *   share  n x n, 64 bits   share of v in the quickest routes from s, at
- *                           s * n + v, times HALL_SCALE
- *   score  n,     64 bits   score of v: its shares added up over all sources
+ *   cost     n x n, 32 bits   cost of the link u to v at u * n + v, 0 for none
+ *   passing  n,     32 bits   passing time of v
+ *   time     n x n, 32 bits   least time s to t at s * n + t, at most
+ *                             8,191,875, HALL_MARK where there is no route
+ *   ways     n x n, 32 bits   number of quickest routes s to t
+ *   share    n x n, 64 bits   share of v in the quickest routes from s, at
+ *                             s * n + v, times HALL_SCALE
+ *   score    n,     64 bits   score of v: its shares added up over all sources
  *
+ * The five tables are all of these but the passing times, which no call writes.
  * Contents and lengths may be anything: a call refuses what it cannot use, and
  * a table that a call fills may be uninitialised. Pointers may not:
  *
@@ -63,7 +67,46 @@
  *
  * A table that is const is only read. Calls on different tables may run at the
  * same time, and so may calls that only read the tables they share. While a
- * call may write a table, no other call may use it.
+ * call may write a table, no other call may use it; while a call may read one,
+ * the host may not write it.
+ *
+ *
+ * PASSING TIMES
+ *
+ * A rack is weighed and turned at a junction, which takes time that is in no
+ * link. A route's time is the sum of the costs of its links and of the passing
+ * times of the stops strictly between its ends: the stops where it begins and
+ * ends count for nothing. Times, ways, shares, scores, touched sources and lists
+ * of routes go by this sum. The largest time is 8,191,875: 63 links of 65,535
+ * and as much at each of the 62 stops between. In a hall where passing takes no
+ * time, the table has n zeros.
+ *
+ * The host sets the table, and every call on the tables but hall_move_over is
+ * lent it. A hall has the passing times with which it was made, worked out or
+ * read:
+ *
+ * 1. Set the table right before hall_empty, hall_work_out or hall_image_read,
+ *    and at no other time; a hall that was moved over has zeros at first.
+ * 2. If that call is refused, set it back right after: the five tables are
+ *    still those of the former passing times.
+ *
+ * So to change the passing times of a running hall, set the table and call
+ * hall_work_out with the present costs. It can refuse with 11, as the routes
+ * that are quickest then can be too many.
+ *
+ * If the table is changed at another time, the five tables need not be those of
+ * their hall any more: each call that looks at them (audit, the edits, a list of
+ * edits, a list of routes, image write) answers 3 wherever the change makes
+ * another time, number of ways, share or score, and 13 for a time above 65,535.
+ * Where the change makes none of these, nothing is found and nothing is wrong:
+ * the tables are also those of the other passing times.
+ *
+ * An image has links only. hall_image_read is lent the passing times, and gives
+ * back the hall of an image if they are those of the hall that was written. So
+ * keep them with an image.
+ *
+ * A hall of a release with this scale and without passing times goes on with a
+ * table of zeros: its tables are the same.
  *
  *
  * REFUSED CALLS, AND CALLS THAT ARE CUT SHORT
@@ -79,27 +122,29 @@
  * not belong together. It cannot tell which links they were meant to have:
  * the cost table may hold a link before or after its edit, after a list some
  * of its edits, and after empty hall or image read a part of the old links and
- * a part of the new ones. So keep the last good image apart, and read it after
- * a kill; or bring a cost table that is known to be good to work out. A
- * half-written image can pass the image check too: keep the old one until the
- * call has returned.
+ * a part of the new ones. Nor can it tell which passing times were meant, if the
+ * host had set them for that call. So keep the last good image apart, with its
+ * passing times, and read it after a kill; or bring a cost table and passing
+ * times that are known to be good to work out. A half-written image can pass the
+ * image check too: keep the old one until the call has returned.
  *
  *
  * REFUSALS
  *
  * Every call answers a refusal, 0 for accepted. Each call lists those that it
  * knows, in the order in which it tests them; the first that applies is the
- * answer. That order is rising, but that a list is tested for 12 before its
- * edits are. The names are those of hall_refusal below.
+ * answer. That order is rising, but that 13 is tested directly after 2, and a
+ * list for 12 before its edits are. The names are those of hall_refusal below.
  *
  *    0  HALL_ACCEPTED
  *    1  HALL_BAD_SIZE         n is 0 or above 64
  *    2  HALL_BAD_LENGTH       a table's length is not exactly n x n, or n for
- *                             score
+ *                             passing and score
  *    3  HALL_BAD_TABLES       the tables are not those of a hall: the cost
  *                             table is not one that work out accepts, or the
- *                             other four are not what it would fill; in
- *                             hall_move_over, by the old numbers
+ *                             other four are not what it would fill with these
+ *                             passing times; in hall_move_over, by the old
+ *                             numbers and with passing times of 0
  *    4  HALL_BAD_STOP         a stop is n or more, or both are the same; in
  *                             hall_list_routes they may be the same
  *    5  HALL_BAD_COST         a cost is 0 or above 65,535; in work out, an
@@ -115,6 +160,9 @@
  *   11  HALL_TOO_MANY_WAYS    the hall would have a pair with more than 12
  *                             ways; in hall_move_over, it has one
  *   12  HALL_LIST_TOO_LONG    a list has more than 32 edits
+ *   13  HALL_BAD_PASSING      a passing time is above 65,535; tested directly
+ *                             after 2, in every call on the tables but
+ *                             hall_move_over
  *
  * One answer stands for a call that is not made, since it was given no list of
  * edits. It comes before all refusals, 1 included:
@@ -126,34 +174,38 @@
  * MOVING A HALL OVER FROM THE OLD NUMBERS
  *
  * Older releases allowed 22 ways and had the scale 232,792,560: HALL_OLD_WAYS
- * and HALL_OLD_SCALE, which is 8,398 times HALL_SCALE. The tables have the same
- * widths, costs, times and ways as now; each share and score is 8,398 times as
- * large. hall_move_over divides them in place, so a hall need not stop:
+ * and HALL_OLD_SCALE, which is 8,398 times HALL_SCALE. They had no passing
+ * times. The tables have the same widths, costs, times and ways as now with
+ * passing times of 0; each share and score is 8,398 times as large.
+ * hall_move_over divides them in place, so a hall need not stop:
  *
  * 1. The tables lie in the host's memory. Let them lie there, as the last call
  *    of the old library left them.
- * 2. Link this library in place of the old one. Both have the same names; a
- *    host that wants both at once puts each into a shared object of its own.
- * 3. Call hall_move_over once. From there on use this library alone, and read
- *    shares and scores by HALL_SCALE.
+ * 2. Link this library in place of the old one. Both have the same names, but
+ *    this one's calls are lent the passing times; a host that wants both at once
+ *    puts each into a shared object of its own.
+ * 3. Call hall_move_over once. It is lent no passing times, and takes each for
+ *    0. From there on use this library alone, read shares and scores by
+ *    HALL_SCALE, and lend it a table of n passing times, at first all 0.
  *
  * Until step 3 each call of this library that looks at the tables (audit, the
  * edits, a list of edits, a list of routes, image write) answers 3. If every
- * share is 0, old and new tables are the same: all calls take them, and moving
- * changes nothing.
+ * share is 0, old and new tables are the same: with passing times of 0 all calls
+ * take them, and moving changes nothing.
  *
  * Refused with 11: go on with the old library, which can still edit the hall.
  * Once no entry of the ways table is above 12, move again.
  *
  * Refused with 3: the tables are not those of the old numbers. If hall_audit
- * answers 0, they have been moved already. Else they are damaged: work them out
- * anew from the cost table by hall_work_out, which needs no old tables, or read
- * the last good image. A host that was killed inside hall_move_over finds its
- * costs as they were.
+ * answers 0 with the passing times in use, they have been moved already. Else
+ * they are damaged: work them out anew from the cost table by hall_work_out,
+ * with passing times of 0, which needs no old tables, or read the last good
+ * image. A host that was killed inside hall_move_over finds its costs as they
+ * were.
  *
  * Once moved, every share and score fits 32 bits, though the tables keep their
- * widths. An image has links only, so old images are read as before; one of a
- * hall with more than 12 ways is refused with 11.
+ * widths. An image has links only, so old images are read as before, with
+ * passing times of 0; one of a hall with more than 12 ways is refused with 11.
  */
 
 #if !defined(__x86_64__) || defined(__ILP32__) || !defined(__linux__)
@@ -170,6 +222,7 @@ extern "C" {
 /* The limits, each as wide as what it is compared with or multiplied into. */
 #define HALL_STOPS UINT64_C(64)               /* most stops */
 #define HALL_LARGEST_COST UINT32_C(65535)     /* of a link */
+#define HALL_LARGEST_PASSING UINT32_C(65535)  /* time of a stop */
 #define HALL_WAYS UINT32_C(12)                /* most quickest routes of a pair */
 #define HALL_EDITS UINT64_C(32)               /* most edits of a list */
 #define HALL_MARK UINT32_C(4294967295)        /* the time where there is no route */
@@ -197,6 +250,7 @@ typedef enum {
     HALL_SHORT_BUFFER = 10,
     HALL_TOO_MANY_WAYS = 11,
     HALL_LIST_TOO_LONG = 12,
+    HALL_BAD_PASSING = 13,
     HALL_NO_KIND = 255
 } hall_refusal;
 
@@ -226,7 +280,7 @@ typedef struct {
  * fields, not the bytes.
  *
  * To reverse an accepted edit, call on the tables that it left, with the same
- * n and the same stops:
+ * n, the same passing times and the same stops:
  *
  *   after hall_insert    hall_delete
  *   after hall_cheapen   hall_raise, with `before` as the cost
@@ -243,7 +297,7 @@ typedef struct {
 } hall_edited;
 
 /* A list's answer: its refusal; the place of the first refused edit, counted
- * from 1, 0 where no edit was refused (so also for 1, 2, 3 and 12), and for
+ * from 1, 0 where no edit was refused (so also for 1, 2, 13, 3 and 12), and for
  * HALL_NO_KIND that of the first edit without a kind; the set of
  * the sources that some edit touched, bit s for source s, and their number.
  * Rows of other sources are as they were; the row of a source in the set may
@@ -265,47 +319,65 @@ typedef struct {
     uint64_t length;
 } hall_written;
 
-/* Five tables that the host has made for n stops: n x n entries each, n for
- * score. No call takes this type; it is there for HALL_TABLES. */
+/* Five tables that the host has made for n stops, and their passing times: n x n
+ * entries each, n for passing and score. No call takes this type; it is there
+ * for HALL_TABLES. */
 typedef struct {
     uint64_t n;
     uint32_t *cost;
+    uint32_t *passing;
     uint32_t *time;
     uint32_t *ways;
     uint64_t *share;
     uint64_t *score;
 } hall_tables;
 
-/* The ten arguments for the tables of t, a hall_tables or another struct with
+/* The twelve arguments for the tables of t, a hall_tables or another struct with
  * such fields: hall_insert(t.n, from, to, c, HALL_TABLES(t)). It evaluates t
  * more than once. */
 #define HALL_TABLES(t)          \
+    (t).cost, (t).n * (t).n,    \
+    (t).passing, (t).n,         \
+    (t).time, (t).n * (t).n,    \
+    (t).ways, (t).n * (t).n,    \
+    (t).share, (t).n * (t).n,   \
+    (t).score, (t).n
+
+/* The ten arguments of the same tables for hall_move_over, which is lent no
+ * passing times: hall_move_over(t.n, HALL_OLD_TABLES(t)). */
+#define HALL_OLD_TABLES(t)      \
     (t).cost, (t).n * (t).n,    \
     (t).time, (t).n * (t).n,    \
     (t).ways, (t).n * (t).n,    \
     (t).share, (t).n * (t).n,   \
     (t).score, (t).n
 
-/* Fills all five tables for a hall without links. Refusals 1, 2. */
+/* Fills all five tables for a hall without links, which has these passing times
+ * from there on. Refusals 1, 2, 13. */
 uint32_t hall_empty(uint64_t n,
                     uint32_t *cost, size_t cost_length,
+                    const uint32_t *passing, size_t passing_length,
                     uint32_t *time, size_t time_length,
                     uint32_t *ways, size_t ways_length,
                     uint64_t *share, size_t share_length,
                     uint64_t *score, size_t score_length);
 
-/* Fills the other four tables from a cost table. Refusals 1, 2, 5, 11. */
+/* Fills the other four tables from a cost table and passing times.
+ * Refusals 1, 2, 13, 5, 11. */
 uint32_t hall_work_out(uint64_t n,
                        const uint32_t *cost, size_t cost_length,
+                       const uint32_t *passing, size_t passing_length,
                        uint32_t *time, size_t time_length,
                        uint32_t *ways, size_t ways_length,
                        uint64_t *share, size_t share_length,
                        uint64_t *score, size_t score_length);
 
-/* 0 exactly if work out accepts the cost table and would fill the other four
- * with what they hold. Only reads. Refusals 1, 2, 3. */
+/* 0 exactly if work out accepts the cost table and the passing times and would
+ * fill the other four tables with what they hold. Only reads.
+ * Refusals 1, 2, 13, 3. */
 uint32_t hall_audit(uint64_t n,
                     const uint32_t *cost, size_t cost_length,
+                    const uint32_t *passing, size_t passing_length,
                     const uint32_t *time, size_t time_length,
                     const uint32_t *ways, size_t ways_length,
                     const uint64_t *share, size_t share_length,
@@ -313,10 +385,12 @@ uint32_t hall_audit(uint64_t n,
 
 /* Moves tables of the old numbers over: divides each share and score by 8,398,
  * HALL_OLD_SCALE / HALL_SCALE, so that the five are those of a work out from
- * the same costs. Costs, times and ways are only read. It first audits the
- * tables by the old scale and the old limit of 22 ways, so that it answers 3
- * for tables that have been moved, unless every share is 0. Refused, it has
- * changed nothing. Refusals 1, 2, 3, 11. */
+ * the same costs with passing times of 0. Costs, times and ways are only read.
+ * It is lent no passing times. It first audits the tables by the old scale, the
+ * old limit of 22 ways and passing times of 0, so that it answers 3 for tables
+ * that have been moved, unless every share is 0, and wherever a passing time has
+ * made another time or number of ways. Refused, it has changed nothing.
+ * Refusals 1, 2, 3, 11. */
 uint32_t hall_move_over(uint64_t n,
                         const uint32_t *cost, size_t cost_length,
                         const uint32_t *time, size_t time_length,
@@ -328,35 +402,39 @@ uint32_t hall_move_over(uint64_t n,
  * four tables up to it. */
 
 /* Adds the link from one stop to another, with cost c.
- * Refusals 1, 2, 3, 4, 5, 6, 11. */
+ * Refusals 1, 2, 13, 3, 4, 5, 6, 11. */
 hall_edited hall_insert(uint64_t n, uint64_t from, uint64_t to, uint64_t c,
                         uint32_t *cost, size_t cost_length,
+                        const uint32_t *passing, size_t passing_length,
                         uint32_t *time, size_t time_length,
                         uint32_t *ways, size_t ways_length,
                         uint64_t *share, size_t share_length,
                         uint64_t *score, size_t score_length);
 
-/* Gives a link the lower cost c. Refusals 1, 2, 3, 4, 5, 7, 8, 11. */
+/* Gives a link the lower cost c. Refusals 1, 2, 13, 3, 4, 5, 7, 8, 11. */
 hall_edited hall_cheapen(uint64_t n, uint64_t from, uint64_t to, uint64_t c,
                          uint32_t *cost, size_t cost_length,
+                         const uint32_t *passing, size_t passing_length,
                          uint32_t *time, size_t time_length,
                          uint32_t *ways, size_t ways_length,
                          uint64_t *share, size_t share_length,
                          uint64_t *score, size_t score_length);
 
-/* Gives a link the higher cost c. Refusals 1, 2, 3, 4, 5, 7, 8, 11: the routes
- * that are quickest then can be too many. */
+/* Gives a link the higher cost c. Refusals 1, 2, 13, 3, 4, 5, 7, 8, 11: the
+ * routes that are quickest then can be too many. */
 hall_edited hall_raise(uint64_t n, uint64_t from, uint64_t to, uint64_t c,
                        uint32_t *cost, size_t cost_length,
+                       const uint32_t *passing, size_t passing_length,
                        uint32_t *time, size_t time_length,
                        uint32_t *ways, size_t ways_length,
                        uint64_t *share, size_t share_length,
                        uint64_t *score, size_t score_length);
 
-/* Takes a link out. Refusals 1, 2, 3, 4, 7, 11: the routes that are quickest
+/* Takes a link out. Refusals 1, 2, 13, 3, 4, 7, 11: the routes that are quickest
  * without it can be too many. */
 hall_edited hall_delete(uint64_t n, uint64_t from, uint64_t to,
                         uint32_t *cost, size_t cost_length,
+                        const uint32_t *passing, size_t passing_length,
                         uint32_t *time, size_t time_length,
                         uint32_t *ways, size_t ways_length,
                         uint64_t *share, size_t share_length,
@@ -365,9 +443,11 @@ hall_edited hall_delete(uint64_t n, uint64_t from, uint64_t to,
 /* A list of edits in one go, four numbers for each as in hall_edit, so that
  * list_length is 4 for each edit; one of the first 32 with fewer than four is
  * an edit without a kind. C and C++ call hall_edit_list, which hands on to it.
- * Refusals 1, 2, 3, 12, and of an edit 4, 5, 6, 7, 8, 11; and HALL_NO_KIND. */
+ * Refusals 1, 2, 13, 3, 12, and of an edit 4, 5, 6, 7, 8, 11; and
+ * HALL_NO_KIND. */
 hall_listed hall_edit_numbers(uint64_t n, const uint64_t *list, size_t list_length,
                               uint32_t *cost, size_t cost_length,
+                              const uint32_t *passing, size_t passing_length,
                               uint32_t *time, size_t time_length,
                               uint32_t *ways, size_t ways_length,
                               uint64_t *share, size_t share_length,
@@ -377,12 +457,13 @@ hall_listed hall_edit_numbers(uint64_t n, const uint64_t *list, size_t list_leng
  * turn, each in the hall that its predecessors made, by what would refuse it
  * alone; so a list may be refused with 11 because of a state on the way. The
  * tables are audited once. Refused, they are as they were, whatever the place.
- * A list of no edits is accepted if the tables pass 1, 2 and 3, and touches
+ * A list of no edits is accepted if the tables pass 1, 2, 13 and 3, and touches
  * none. If one of the first 32 edits has a kind that is none, the answer is
  * HALL_NO_KIND with its place, whatever the other arguments are, and nothing is
  * changed. Refusals as above. */
 static inline hall_listed hall_edit_list(uint64_t n, const hall_edit *list, size_t edits,
                                          uint32_t *cost, size_t cost_length,
+                                         const uint32_t *passing, size_t passing_length,
                                          uint32_t *time, size_t time_length,
                                          uint32_t *ways, size_t ways_length,
                                          uint64_t *share, size_t share_length,
@@ -392,7 +473,8 @@ static inline hall_listed hall_edit_list(uint64_t n, const hall_edit *list, size
     size_t numbers = 4 * (edits > HALL_EDITS ? HALL_EDITS + 1 : edits);
 
     return hall_edit_numbers(n, (const uint64_t *)list, numbers,
-                             cost, cost_length, time, time_length, ways, ways_length,
+                             cost, cost_length, passing, passing_length,
+                             time, time_length, ways, ways_length,
                              share, share_length, score, score_length);
 }
 
@@ -407,7 +489,7 @@ static inline hall_listed hall_edit_list(uint64_t n, const hall_edit *list, size
  * most 12 routes of at most 64 stops, each behind a byte. (12 routes cannot all
  * pass all stops: by a search of all cases, which is no proof, the longest list
  * has 761 bytes.) A shorter buffer will do if the list fits, and in a longer one
- * the bytes past the list stay. Refusals 1, 2, 3, 4, 10.
+ * the bytes past the list stay. Refusals 1, 2, 13, 3, 4, 10.
  *
  * To go through a list, with t a hall_tables:
  *
@@ -425,6 +507,7 @@ static inline hall_listed hall_edit_list(uint64_t n, const hall_edit *list, size
  */
 hall_written hall_list_routes(uint64_t n, uint64_t from, uint64_t to,
                               const uint32_t *cost, size_t cost_length,
+                              const uint32_t *passing, size_t passing_length,
                               const uint32_t *time, size_t time_length,
                               const uint32_t *ways, size_t ways_length,
                               const uint64_t *share, size_t share_length,
@@ -433,9 +516,11 @@ hall_written hall_list_routes(uint64_t n, uint64_t from, uint64_t to,
 
 /* Audits the tables and writes the hall's links to a buffer: 4 bytes for each
  * and 8 more, at most HALL_LONGEST_IMAGE. The buffer may be longer; its bytes
- * past the image stay. Refusals 1, 2, 3, 10. */
+ * past the image stay. The passing times are not in it.
+ * Refusals 1, 2, 13, 3, 10. */
 hall_written hall_image_write(uint64_t n,
                               const uint32_t *cost, size_t cost_length,
+                              const uint32_t *passing, size_t passing_length,
                               const uint32_t *time, size_t time_length,
                               const uint32_t *ways, size_t ways_length,
                               const uint64_t *share, size_t share_length,
@@ -443,9 +528,11 @@ hall_written hall_image_write(uint64_t n,
                               uint8_t *buffer, size_t buffer_length);
 
 /* Fills all five tables from an image, whose length must be the image's own
- * and not that of a longer buffer. Refusals 1, 2, 9, 11. */
+ * and not that of a longer buffer, and passing times: with those of the hall
+ * that was written they are its tables. Refusals 1, 2, 13, 9, 11. */
 uint32_t hall_image_read(uint64_t n, const uint8_t *image, size_t image_length,
                          uint32_t *cost, size_t cost_length,
+                         const uint32_t *passing, size_t passing_length,
                          uint32_t *time, size_t time_length,
                          uint32_t *ways, size_t ways_length,
                          uint64_t *share, size_t share_length,

@@ -1,5 +1,6 @@
 /* Measures how deep each call goes, on a stack of its own that is filled with one byte before it. Fails above HALL_STACK.
- * Calls that write rows go deepest, here on 64 stops; most of them are refused with 11 and put the rows back. */
+ * Calls that write rows go deepest, here on 64 stops; most of them are refused with 11 and put the rows back. No depth goes by the
+ * passing times, which are 0. */
 #include "hall.h"
 
 #include <stdio.h>
@@ -8,10 +9,10 @@
 
 enum { N = 64, CELLS = N * N, ROOM = 1 << 20, UNUSED = 0xa5 };
 
-static uint32_t cost[CELLS], time[CELLS], ways[CELLS];
+static uint32_t cost[CELLS], passing[N], time[CELLS], ways[CELLS];
 static uint64_t share[CELLS], score[N];
 static uint8_t image[HALL_LONGEST_IMAGE], routes[HALL_LONGEST_ROUTE_LIST];
-static hall_tables t = {N, cost, time, ways, share, score};
+static hall_tables t = {N, cost, passing, time, ways, share, score};
 static size_t image_length;
 
 static unsigned char room[ROOM] __attribute__((aligned(4096)));
@@ -21,7 +22,7 @@ static uint32_t answer;
 static void empty(void) { answer = hall_empty(N, HALL_TABLES(t)); }
 static void work_out(void) { answer = hall_work_out(N, HALL_TABLES(t)); }
 static void audit(void) { answer = hall_audit(N, HALL_TABLES(t)); }
-static void move_over(void) { answer = hall_move_over(N, HALL_TABLES(t)); }
+static void move_over(void) { answer = hall_move_over(N, HALL_OLD_TABLES(t)); }
 static void insert(void) { answer = hall_insert(N, 0, 1, 10, HALL_TABLES(t)).refusal; }
 static void cheapen(void) { answer = hall_cheapen(N, 0, 1, 10, HALL_TABLES(t)).refusal; }
 static void raise_cost(void) { answer = hall_raise(N, 0, 1, 10, HALL_TABLES(t)).refusal; }

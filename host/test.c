@@ -1,5 +1,5 @@
 /* What hall.h says of the archive, and no proof covers, tried: widths and layout, the name of each refusal, the order of the
- * arguments, NULL with length 0, lists of routes, old tables moved over, the longest image. Prints what does not hold. */
+ * arguments, NULL with length 0, lists of routes, passing times, old tables moved over, the longest image. Prints what does not hold. */
 #include "hall.h"
 
 #include <stdio.h>
@@ -12,7 +12,8 @@ _Static_assert(HALL_OLD_SCALE == 8398 * HALL_SCALE, "what a share is divided by"
 _Static_assert(sizeof HALL_SCALE == sizeof(uint64_t) && sizeof HALL_STOPS == sizeof(uint64_t), "as wide as a score, as n");
 _Static_assert(sizeof HALL_OLD_SCALE == sizeof(uint64_t) && sizeof HALL_OLD_WAYS == sizeof(uint32_t), "as wide as a score, as ways");
 _Static_assert(sizeof HALL_MARK == sizeof(uint32_t) && sizeof HALL_WAYS == sizeof(uint32_t), "as wide as an entry");
-_Static_assert(sizeof HALL_LARGEST_COST == sizeof(uint32_t), "as wide as an entry");
+_Static_assert(sizeof HALL_LARGEST_COST == sizeof(uint32_t) && sizeof HALL_LARGEST_PASSING == sizeof(uint32_t), "as wide as an entry");
+_Static_assert(63 * HALL_LARGEST_COST + 62 * HALL_LARGEST_PASSING == 8191875 && 8191875 < HALL_MARK, "the largest time is not the mark");
 _Static_assert(HALL_LONGEST_ROUTE_LIST == 1 + HALL_WAYS * (1 + HALL_STOPS), "the number of routes, and for each its length and its stops");
 _Static_assert(HALL_WAYS <= UINT8_MAX && HALL_STOPS <= UINT8_MAX, "each of these is a byte");
 _Static_assert(sizeof HALL_LONGEST_ROUTE_LIST == sizeof(uint64_t), "as wide as a length");
@@ -39,16 +40,18 @@ static int wrong;
 
 enum { MOST = 64 * 64 };
 
-static uint32_t cost[MOST], time[MOST], ways[MOST];
+static uint32_t cost[MOST], passing[64], time[MOST], ways[MOST];
 static uint64_t share[MOST], score[64];
 static uint8_t buffer[HALL_LONGEST_IMAGE];
 
+/* Each test finds and leaves passing times of 0. */
 static hall_tables tables_of(uint64_t n)
 {
-    return (hall_tables){.n = n, .cost = cost, .time = time, .ways = ways, .share = share, .score = score};
+    return (hall_tables){.n = n, .cost = cost, .passing = passing, .time = time, .ways = ways, .share = share, .score = score};
 }
 
-#define NONE NULL, 0, NULL, 0, NULL, 0, NULL, 0, NULL, 0
+#define NONE NULL, 0, NULL, 0, NULL, 0, NULL, 0, NULL, 0, NULL, 0
+#define OLD_NONE NULL, 0, NULL, 0, NULL, 0, NULL, 0, NULL, 0
 
 /* NULL with length 0 is a length that does not fit, in tables, images and buffers alike. */
 static void null_is_empty(void)
@@ -60,7 +63,7 @@ static void null_is_empty(void)
         HOLDS(hall_empty(n, NONE) == expected);
         HOLDS(hall_work_out(n, NONE) == expected);
         HOLDS(hall_audit(n, NONE) == expected);
-        HOLDS(hall_move_over(n, NONE) == expected);
+        HOLDS(hall_move_over(n, OLD_NONE) == expected);
         HOLDS(hall_insert(n, 0, 1, 1, NONE).refusal == expected);
         HOLDS(hall_cheapen(n, 0, 1, 1, NONE).refusal == expected);
         HOLDS(hall_raise(n, 0, 1, 1, NONE).refusal == expected);
@@ -164,12 +167,13 @@ static void ways_in_16_bits(void)
     HOLDS(hall_audit(t.n, HALL_TABLES(t)) == HALL_BAD_TABLES);
 }
 
-static uint32_t kept_cost[MOST], kept_time[MOST], kept_ways[MOST];
+static uint32_t kept_cost[MOST], kept_passing[64], kept_time[MOST], kept_ways[MOST];
 static uint64_t kept_share[MOST], kept_score[64];
 
 static void keep(void)
 {
     memcpy(kept_cost, cost, sizeof cost);
+    memcpy(kept_passing, passing, sizeof passing);
     memcpy(kept_time, time, sizeof time);
     memcpy(kept_ways, ways, sizeof ways);
     memcpy(kept_share, share, sizeof share);
@@ -178,8 +182,9 @@ static void keep(void)
 
 static int as_kept(void)
 {
-    return !memcmp(kept_cost, cost, sizeof cost) && !memcmp(kept_time, time, sizeof time) && !memcmp(kept_ways, ways, sizeof ways) &&
-           !memcmp(kept_share, share, sizeof share) && !memcmp(kept_score, score, sizeof score);
+    return !memcmp(kept_cost, cost, sizeof cost) && !memcmp(kept_passing, passing, sizeof passing) &&
+           !memcmp(kept_time, time, sizeof time) && !memcmp(kept_ways, ways, sizeof ways) && !memcmp(kept_share, share, sizeof share) &&
+           !memcmp(kept_score, score, sizeof score);
 }
 
 static int same_sources(hall_edited a, hall_edited b) { return a.touched == b.touched && a.rows == b.rows; }
@@ -375,6 +380,223 @@ static void longest_list(void)
     HOLDS(w.refusal == HALL_ACCEPTED && w.length == 761 && buffer[0] == HALL_WAYS && routes_in_order(t, 761));
 }
 
+/* The tables of t with passing times that lie elsewhere. */
+#define PASSING(t, p, length)                                                                                          \
+    (t).cost, (t).n * (t).n, p, length, (t).time, (t).n * (t).n, (t).ways, (t).n * (t).n, (t).share, (t).n * (t).n, \
+        (t).score, (t).n
+
+/* Whether each call that is lent passing times answers this to them, and has changed nothing. Its other arguments are such that it is
+ * refused later, but for hall_empty. */
+static int all_answer(hall_tables t, uint64_t n, const uint32_t *p, size_t length, uint32_t refusal)
+{
+    hall_edit list[33];
+    int good;
+
+    for (int i = 0; i < 33; i++)
+        list[i] = (hall_edit){HALL_DELETE, n, n, 0};
+    keep();
+    good = hall_empty(n, PASSING(t, p, length)) == refusal && hall_work_out(n, PASSING(t, p, length)) == refusal &&
+           hall_audit(n, PASSING(t, p, length)) == refusal && hall_insert(n, n, n, 0, PASSING(t, p, length)).refusal == refusal &&
+           hall_cheapen(n, n, n, 0, PASSING(t, p, length)).refusal == refusal &&
+           hall_raise(n, n, n, 0, PASSING(t, p, length)).refusal == refusal &&
+           hall_delete(n, n, n, PASSING(t, p, length)).refusal == refusal &&
+           hall_edit_list(n, list, 33, PASSING(t, p, length)).refusal == refusal &&
+           hall_list_routes(n, n, n, PASSING(t, p, length), NULL, 0).refusal == refusal &&
+           hall_image_write(n, PASSING(t, p, length), NULL, 0).refusal == refusal &&
+           hall_image_read(n, NULL, 0, PASSING(t, p, length)) == refusal;
+    return good && as_kept();
+}
+
+/* 1, 2 and 13 come in this order, and before the tests of damaged tables with a cost that is none. */
+static void passing_refused(void)
+{
+    hall_tables t = tables_of(4);
+
+    HOLDS(hall_empty(4, HALL_TABLES(t)) == HALL_ACCEPTED);
+    cost[0] = 1;
+    ways[3]++;
+    passing[3] = HALL_LARGEST_PASSING + 1;
+    HOLDS(all_answer(t, 4, passing, 4, HALL_BAD_PASSING));
+    HOLDS(all_answer(t, 4, passing, 3, HALL_BAD_LENGTH) && all_answer(t, 4, passing, 5, HALL_BAD_LENGTH));
+    HOLDS(all_answer(t, 4, passing, 16, HALL_BAD_LENGTH) && all_answer(t, 4, NULL, 0, HALL_BAD_LENGTH));
+    HOLDS(all_answer(t, 0, passing, 4, HALL_BAD_SIZE) && all_answer(t, HALL_STOPS + 1, passing, 4, HALL_BAD_SIZE));
+    passing[3] = 0;
+    passing[0] = UINT32_MAX;
+    HOLDS(all_answer(t, 4, passing, 4, HALL_BAD_PASSING));
+    passing[0] = UINT32_C(1) << 31;
+    HOLDS(all_answer(t, 4, passing, 4, HALL_BAD_PASSING));
+    /* the largest is not too long, and what lies behind the table is not looked at */
+    passing[0] = HALL_LARGEST_PASSING;
+    passing[4] = UINT32_MAX;
+    HOLDS(hall_audit(4, HALL_TABLES(t)) == HALL_BAD_TABLES && hall_work_out(4, HALL_TABLES(t)) == HALL_BAD_COST);
+    HOLDS(hall_image_read(4, NULL, 0, HALL_TABLES(t)) == HALL_BAD_IMAGE);
+    HOLDS(hall_empty(4, HALL_TABLES(t)) == HALL_ACCEPTED && hall_audit(4, HALL_TABLES(t)) == HALL_ACCEPTED);
+    memset(passing, 0, sizeof passing);
+}
+
+/* Passing times in memory that can only be read: a call that wrote them would end the program. */
+static void passing_only_read(void)
+{
+    static const uint32_t fixed[15] = {9, 9, 1, 1, 1, 1, 1, 1, 1, 1, 1, 1, 1, 1, 0};
+    hall_tables t = tables_of(15);
+    hall_edit list[2] = {{HALL_INSERT, 1, 0, 7}, {HALL_DELETE, 1, 0, 0}};
+    hall_written w;
+
+    HOLDS(hall_empty(15, PASSING(t, fixed, 15)) == HALL_ACCEPTED);
+    for (uint64_t v = 2; v < 15; v++)
+        cost[v] = cost[v * 15 + 1] = 5;
+    /* 12 ways of time 11, and one of 10 over the last stop, which has no passing time */
+    HOLDS(hall_work_out(15, PASSING(t, fixed, 15)) == HALL_ACCEPTED && time[1] == 10 && ways[1] == 1 && score[14] == HALL_SCALE);
+    HOLDS(hall_audit(15, PASSING(t, fixed, 15)) == HALL_ACCEPTED);
+    HOLDS(hall_raise(15, 0, 14, 6, PASSING(t, fixed, 15)).refusal == HALL_TOO_MANY_WAYS);
+    HOLDS(hall_insert(15, 0, 1, 11, PASSING(t, fixed, 15)).refusal == HALL_ACCEPTED);
+    HOLDS(hall_raise(15, 0, 14, 7, PASSING(t, fixed, 15)).refusal == HALL_TOO_MANY_WAYS);
+    HOLDS(hall_delete(15, 0, 1, PASSING(t, fixed, 15)).refusal == HALL_ACCEPTED);
+    HOLDS(hall_raise(15, 0, 14, 7, PASSING(t, fixed, 15)).refusal == HALL_ACCEPTED && ways[1] == 12 && score[2] == 2310);
+    HOLDS(hall_cheapen(15, 0, 14, 5, PASSING(t, fixed, 15)).refusal == HALL_ACCEPTED && ways[1] == 1);
+    HOLDS(hall_edit_list(15, list, 2, PASSING(t, fixed, 15)).refusal == HALL_ACCEPTED);
+    w = hall_list_routes(15, 0, 1, PASSING(t, fixed, 15), buffer, sizeof buffer);
+    HOLDS(w.refusal == HALL_ACCEPTED && w.length == 5 && !memcmp(buffer, "\1\3\0\16\1", 5));
+    w = hall_image_write(15, PASSING(t, fixed, 15), buffer, sizeof buffer);
+    HOLDS(w.refusal == HALL_ACCEPTED && hall_image_read(15, buffer, w.length, PASSING(t, fixed, 15)) == HALL_ACCEPTED);
+    cost[14] = 6;
+    HOLDS(hall_work_out(15, PASSING(t, fixed, 15)) == HALL_TOO_MANY_WAYS);
+    cost[14] = 5;
+    HOLDS(hall_audit(15, PASSING(t, fixed, 15)) == HALL_ACCEPTED);
+}
+
+/* A line of four stops of 5 each, with another passing time at each stop: what a route passes is added, its ends are not, whichever way
+ * the tables are made. */
+static void only_between(void)
+{
+    hall_tables t = tables_of(4);
+    hall_edited e;
+
+    memcpy(passing, (uint32_t[]){1000, 10, 1, 100}, 4 * sizeof *passing);
+    HOLDS(hall_empty(4, HALL_TABLES(t)) == HALL_ACCEPTED);
+    for (uint64_t u = 0; u < 3; u++)
+        HOLDS(hall_insert(4, u, u + 1, 5, HALL_TABLES(t)).refusal == HALL_ACCEPTED);
+    HOLDS(time[0 * 4 + 1] == 5 && time[0 * 4 + 2] == 20 && time[0 * 4 + 3] == 26 && time[1 * 4 + 3] == 11 && time[2 * 4 + 3] == 5);
+    keep();
+    HOLDS(hall_work_out(4, HALL_TABLES(t)) == HALL_ACCEPTED && as_kept());
+    /* past stop 1: slower by one, as quick, quicker by one */
+    e = hall_insert(4, 0, 2, 21, HALL_TABLES(t));
+    HOLDS(e.refusal == HALL_ACCEPTED && e.touched == 0 && e.rows == 0);
+    e = hall_cheapen(4, 0, 2, 20, HALL_TABLES(t));
+    HOLDS(e.refusal == HALL_ACCEPTED && e.touched == 1 && ways[3] == 2 && score[1] == HALL_SCALE && score[2] == 2 * HALL_SCALE);
+    HOLDS(lists(t, 0, 3, "\2\4\0\1\2\3\3\0\2\3", 10));
+    e = hall_cheapen(4, 0, 2, 19, HALL_TABLES(t));
+    HOLDS(e.refusal == HALL_ACCEPTED && e.touched == 1 && ways[3] == 1 && time[3] == 25 && score[1] == 0);
+    HOLDS(lists(t, 0, 3, "\1\3\0\2\3", 5));
+    memset(passing, 0, sizeof passing);
+}
+
+/* A line of 64 stops, all numbers the largest: the largest time, and no more in a hall where the ends pass at once. */
+static void largest_time(void)
+{
+    hall_tables t = tables_of(HALL_STOPS);
+
+    memset(cost, 0, sizeof cost);
+    for (uint64_t u = 0; u + 1 < t.n; u++)
+        cost[u * t.n + u + 1] = HALL_LARGEST_COST;
+    for (uint64_t v = 0; v < t.n; v++)
+        passing[v] = HALL_LARGEST_PASSING;
+    HOLDS(hall_work_out(t.n, HALL_TABLES(t)) == HALL_ACCEPTED && time[63] == 8191875 && score[31] == 992 * HALL_SCALE);
+    HOLDS(hall_audit(t.n, HALL_TABLES(t)) == HALL_ACCEPTED && list_into(66, t, t.n, 0, 63).length == 66);
+    passing[0] = passing[63] = 0;
+    HOLDS(hall_audit(t.n, HALL_TABLES(t)) == HALL_ACCEPTED);
+    passing[62] = 0;
+    HOLDS(hall_audit(t.n, HALL_TABLES(t)) == HALL_BAD_TABLES);
+    memset(passing, 0, sizeof passing);
+}
+
+/* Whether each call that looks at the tables answers this, and nothing has changed. */
+static int lookers_answer(hall_tables t, uint32_t refusal)
+{
+    keep();
+    return hall_audit(t.n, HALL_TABLES(t)) == refusal && hall_insert(t.n, 0, t.n, 1, HALL_TABLES(t)).refusal == refusal &&
+           hall_cheapen(t.n, 0, t.n, 1, HALL_TABLES(t)).refusal == refusal &&
+           hall_raise(t.n, 0, t.n, 1, HALL_TABLES(t)).refusal == refusal &&
+           hall_delete(t.n, 0, t.n, HALL_TABLES(t)).refusal == refusal &&
+           hall_edit_list(t.n, NULL, 0, HALL_TABLES(t)).refusal == refusal &&
+           hall_list_routes(t.n, 0, t.n, HALL_TABLES(t), NULL, 0).refusal == refusal &&
+           hall_image_write(t.n, HALL_TABLES(t), NULL, 0).refusal == refusal && as_kept();
+}
+
+/* Two ways from 0 to 3, over 1, where passing takes 1, and over 2: a change of the table is found where it changes another one, and a
+ * hall gets other passing times by a work out. */
+static void passing_changed(void)
+{
+    hall_tables t = tables_of(4);
+
+    memset(cost, 0, sizeof cost);
+    cost[0 * 4 + 1] = cost[0 * 4 + 2] = cost[1 * 4 + 3] = cost[2 * 4 + 3] = 5;
+    passing[1] = 1;
+    HOLDS(hall_work_out(4, HALL_TABLES(t)) == HALL_ACCEPTED && time[3] == 10 && score[2] == HALL_SCALE);
+    passing[2] = 2; /* another time */
+    HOLDS(lookers_answer(t, HALL_BAD_TABLES));
+    passing[2] = 1; /* another time and number of ways */
+    HOLDS(lookers_answer(t, HALL_BAD_TABLES));
+    passing[1] = passing[2] = 0; /* another number of ways alone */
+    HOLDS(lookers_answer(t, HALL_BAD_TABLES));
+    passing[2] = 1; /* the same times and ways, other shares */
+    HOLDS(lookers_answer(t, HALL_BAD_TABLES));
+    passing[0] = passing[3] = 8;
+    passing[1] = 7; /* nothing that counts */
+    passing[2] = 0;
+    HOLDS(hall_audit(4, HALL_TABLES(t)) == HALL_ACCEPTED);
+    passing[1] = 0;
+    passing[2] = 1;
+    HOLDS(hall_work_out(4, HALL_TABLES(t)) == HALL_ACCEPTED && time[3] == 10 && score[1] == HALL_SCALE && score[2] == 0);
+    HOLDS(hall_audit(4, HALL_TABLES(t)) == HALL_ACCEPTED);
+    memset(passing, 0, sizeof passing);
+}
+
+/* 12 ways, and a quicker one that passing makes the 13th: refused, and with the former passing times set back all is as it was. */
+static void passing_set_back(void)
+{
+    hall_tables t = tables_of(15);
+    hall_written w;
+
+    memset(cost, 0, sizeof cost);
+    for (uint64_t v = 2; v < 15; v++)
+        cost[v] = cost[v * t.n + 1] = 5;
+    cost[2] = 4;
+    HOLDS(hall_work_out(t.n, HALL_TABLES(t)) == HALL_ACCEPTED && ways[1] == 1);
+    w = hall_image_write(t.n, HALL_TABLES(t), buffer, sizeof buffer);
+    passing[2] = 1;
+    keep();
+    HOLDS(hall_work_out(t.n, HALL_TABLES(t)) == HALL_TOO_MANY_WAYS && as_kept());
+    HOLDS(hall_image_read(t.n, buffer, w.length, HALL_TABLES(t)) == HALL_TOO_MANY_WAYS && as_kept());
+    passing[2] = 0;
+    HOLDS(hall_audit(t.n, HALL_TABLES(t)) == HALL_ACCEPTED);
+    passing[2] = 2;
+    HOLDS(hall_image_read(t.n, buffer, w.length, HALL_TABLES(t)) == HALL_ACCEPTED && ways[1] == 12 && time[1] == 10);
+    memset(passing, 0, sizeof passing);
+}
+
+/* An image has links only: its bytes are the same with any passing times, and with those of the hall that was written it gives back
+ * all five tables. */
+static void image_without_passing(void)
+{
+    static uint8_t other[HALL_LONGEST_IMAGE];
+    hall_tables t = forward(4);
+    hall_written w, o;
+
+    HOLDS(hall_work_out(t.n, HALL_TABLES(t)) == HALL_ACCEPTED && ways[3] == 4);
+    o = hall_image_write(t.n, HALL_TABLES(t), other, sizeof other);
+    passing[1] = 1;
+    passing[3] = 5;
+    HOLDS(hall_work_out(t.n, HALL_TABLES(t)) == HALL_ACCEPTED && ways[3] == 2);
+    w = hall_image_write(t.n, HALL_TABLES(t), buffer, sizeof buffer);
+    HOLDS(w.refusal == HALL_ACCEPTED && w.length == o.length && !memcmp(buffer, other, w.length));
+    keep();
+    HOLDS(hall_empty(t.n, HALL_TABLES(t)) == HALL_ACCEPTED && !as_kept());
+    HOLDS(hall_image_read(t.n, buffer, w.length, HALL_TABLES(t)) == HALL_ACCEPTED && as_kept());
+    memset(passing, 0, sizeof passing);
+    HOLDS(hall_image_read(t.n, buffer, w.length, HALL_TABLES(t)) == HALL_ACCEPTED && ways[3] == 4);
+}
+
 /* Five tables by the old numbers, put down entry by entry: `between` ways of time 10 from 0 to 1, each over one stop. */
 static hall_tables old_hall(uint64_t between)
 {
@@ -405,7 +627,7 @@ static uint32_t move(uint64_t n, hall_tables t)
     uint32_t refusal;
 
     keep();
-    refusal = hall_move_over(n, HALL_TABLES(t));
+    refusal = hall_move_over(n, HALL_OLD_TABLES(t));
     return refusal == HALL_ACCEPTED || as_kept() ? refusal : (uint32_t)HALL_NO_KIND;
 }
 
@@ -468,6 +690,31 @@ static void not_moved(void)
     HOLDS(move(t.n, t) == HALL_ACCEPTED);
 }
 
+/* The moving call knows no passing times: what it leaves has none, and tables in which one counts are not those of the old numbers, also
+ * where every share is 0. */
+static void moved_without_passing(void)
+{
+    hall_tables t = old_hall(12);
+
+    passing[2] = HALL_LARGEST_PASSING + 1;
+    HOLDS(move(t.n, t) == HALL_ACCEPTED && hall_audit(t.n, HALL_TABLES(t)) == HALL_BAD_PASSING);
+    passing[2] = 1;
+    HOLDS(hall_audit(t.n, HALL_TABLES(t)) == HALL_BAD_TABLES);
+    passing[2] = 0;
+    HOLDS(hall_audit(t.n, HALL_TABLES(t)) == HALL_ACCEPTED);
+    /* from 0 to 2 directly, since passing 1 takes too long */
+    t = tables_of(3);
+    memset(cost, 0, sizeof cost);
+    cost[0 * 3 + 1] = cost[1 * 3 + 2] = 1;
+    cost[0 * 3 + 2] = 3;
+    passing[1] = 5;
+    HOLDS(hall_work_out(3, HALL_TABLES(t)) == HALL_ACCEPTED && time[2] == 3 && score[1] == 0);
+    HOLDS(hall_audit(3, HALL_TABLES(t)) == HALL_ACCEPTED && move(3, t) == HALL_BAD_TABLES);
+    /* nor does it matter where the passing time changes nothing */
+    HOLDS(hall_delete(3, 1, 2, HALL_TABLES(t)).refusal == HALL_ACCEPTED && move(3, t) == HALL_ACCEPTED && as_kept());
+    memset(passing, 0, sizeof passing);
+}
+
 /* Links from stop 0 to all others and back: all routes of the largest hall pass it, and its score, moved over, fits 32 bits. */
 static void largest_score(void)
 {
@@ -511,8 +758,16 @@ int main(void)
     routes_listed();
     twelve_listed();
     longest_list();
+    passing_refused();
+    passing_only_read();
+    only_between();
+    largest_time();
+    passing_changed();
+    passing_set_back();
+    image_without_passing();
     moved();
     not_moved();
+    moved_without_passing();
     largest_score();
     longest_image();
     return wrong != 0;

@@ -27,13 +27,13 @@ module _ (bytes : List ℕ) (k : ℕ) (size : length bytes ≡ k) (b : List ℕ)
 
 -- a call that, by its rule, writes these bytes
 pub record Writes (c : Call) (t : Tables) (known : Bool) (bytes buffer : List ℕ) : Type 0 where
-  pub by-rule : rule (c .n) (c .ask) (t .cost) ≡ writing (c .n) known bytes buffer (t .cost)
+  pub by-rule : rule (c .n) (c .ask) (t .layout) ≡ writing (c .n) known bytes buffer (t .layout)
 
-pub list-writes : (n s x : ℕ) (t : Tables) (buffer : List ℕ) → Writes (record { n = n; ask = listRoutes s x buffer }) t (ltb s n && ltb x n) (routeList n (t .cost) s x) buffer
+pub list-writes : (n s x : ℕ) (t : Tables) (buffer : List ℕ) → Writes (record { n = n; ask = listRoutes s x buffer }) t (ltb s n && ltb x n) (routeList n (t .layout) s x) buffer
 unfolding rule
 list-writes n s x t buffer = record { by-rule = refl }
 
-pub image-writes : (n : ℕ) (t : Tables) (buffer : List ℕ) → Writes (record { n = n; ask = imageWrite buffer }) t true (imageOf n (t .cost)) buffer
+pub image-writes : (n : ℕ) (t : Tables) (buffer : List ℕ) → Writes (record { n = n; ask = imageWrite buffer }) t true (imageOf n (t .layout .cost)) buffer
 unfolding rule
 image-writes n t buffer = record { by-rule = refl }
 
@@ -48,12 +48,12 @@ module _ {c : Call} {t : Tables} {known : Bool} {bytes buffer : List ℕ} (w : W
 
   -- it is refused as the audit refuses
   pub write-refused : {t′ : Tables} (r : Refusal) → Done (record { n = c .n; ask = audit }) t t′ (ofRefusal r) → accepted r ≡ false → Done c t t (plain r buffer)
-  write-refused r d shut = refused-so r (audit-refused c t (λ s. rw (w .by-rule)) (rw (w .by-rule)) r d shut)
+  write-refused r d shut = refused-so r (audit-refused c t (λ s. rw (w .by-rule)) (rw (w .by-rule)) (rw (w .by-rule)) r d shut)
 
   module _ (a : Audited (c .n) t) where
     -- behind the audit come its stops and its buffer
     write-tests : refusal c t ≡ need known BadStop (need (leb (length bytes) (length buffer)) ShortBuffer Accepted)
-    write-tests = behind-audit c t (λ s. rw (w .by-rule)) (rw (w .by-rule)) a ∙ rw (w .by-rule)
+    write-tests = behind-audit c t (λ s. rw (w .by-rule)) (rw (w .by-rule)) (rw (w .by-rule)) a ∙ rw (w .by-rule)
 
     -- a stop of n or more
     pub write-nowhere : known ≡ false → Done c t t (plain BadStop buffer)

@@ -2,6 +2,7 @@ pub mod Sizes
 pub mod Cases
 pub mod Crowded
 pub mod Corners
+pub mod Junctions
 pub mod Tables
 pub mod Bytes
 pub mod Records
@@ -9,9 +10,11 @@ pub mod Writer
 pub mod Images
 pub mod NoLinks
 pub mod Filled
+pub mod Alone
 pub mod Passed
 pub mod Places
 pub mod Steps
+pub mod Small
 pub mod Moves
 pub mod Moved
 pub mod Audits

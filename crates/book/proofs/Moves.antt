@@ -3,75 +3,76 @@
 use Prim.Native.Nat.{ℕ, _+_, _*_, _/_, _<_, _≤_}
 use native.Mathlib.Nat.{mul-div-cancel-left}
 use native.Mathlib.Omega.{arith}
-use mathlib.Core.Path.{_≡_, refl, sym, _∙_, ap, subst}
+use mathlib.Core.Path.{_≡_, refl, sym, _∙_, ap, subst, subst⁻¹}
 use mathlib.Core.Bool.{Bool, true, false, cond, _&&_}
 use mathlib.Core.List.{List}
 use lib.Dec.{leb, lit<}
-use lib.ListN.{length, length-map, List·getD-map}
+use lib.ListN.{length, length-map, List·getD-map, length-replicate}
 use borrow.Author.Tests.{eq-eqb, leb-true, le-leb}
 use Rattle.routes.specs.Route.{Costs, listTo, allTo, leastTime, ways, share, score}
 use Rattle.routes.proofs.Sums.{sumTo-zero, all-true, all-of, all-cong}
 use Rattle.routes.proofs.Lists.{same-refl}
 use Rattle.routes.proofs.Rows.{length-listTo, getD-listTo, listTo-of, listTo-cong}
 use Rattle.routes.proofs.Scales.{share-scaled, score-scaled}
-use Rattle.book.specs.Hall.{Tables, mostStops, mostWays, scale, oldMostWays, oldScale, oldPerNew, divided, upTo, table, entry, filled, sized, validCosts, uncrowded, right}
-use Rattle.book.specs.Call.{Call, moveOver, workOut, accepted, need, waysTest, rule, refusal, after}
+use Rattle.book.specs.Hall.{Layout, Tables, mostStops, mostWays, scale, oldMostWays, oldScale, oldPerNew, divided, upTo, table, entry, filled, sized, validCosts, uncrowded, right, costsIn, linksAlone}
+use Rattle.book.specs.Call.{Call, moveOver, workOut, accepted, need, waysTest, rule, refusal, after, withLayout}
 use Rattle.book.specs.Book.{Book, tablesOf, bookRefusal, bookAfter}
 use Rattle.book.specs.declared.Refusal.the-variants.{Accepted, BadTables, TooManyWays}
 use Rattle.book.proofs.Tables.{length-table, entry-table, table-of, table-cong}
 use Rattle.book.proofs.Filled.{sized-filled, right-filled, right-true}
 use Rattle.book.proofs.Passed.{passed, audited}
 use Rattle.book.proofs.Calls.{whole}
-use Rattle.book.proofs.Steps.{Held, held-worked, accepted-held, accepted-filled}
+use Rattle.book.proofs.Steps.{Held, held-worked, accepted-filled, held-old, none-brief}
+use Rattle.book.proofs.Alone.{same-ways, same-shares}
 
 -- no pair has more than m ways: so say the entries of the table of ways
-few-entries : (L m n : ℕ) (cost : List ℕ) → allTo n (λ s. allTo n (λ v. leb (entry n (filled L n cost .ways) s v) m)) ≡ uncrowded m n cost
+few-entries : (L m n : ℕ) (lay : Layout) → allTo n (λ s. allTo n (λ v. leb (entry n (filled L n lay .ways) s v) m)) ≡ uncrowded m n lay
 unfolding filled uncrowded
-few-entries L m n cost = all-cong n (λ s k. all-cong n (λ v l. ap (λ x. leb x m) (entry-table n (ways (entry n cost) n) s v k l)))
+few-entries L m n lay = all-cong n (λ s k. all-cong n (λ v l. ap (λ x. leb x m) (entry-table n (λ s. ways (costsIn n lay s) n s) s v k l)))
 
 -- the shares of a hall, and that none is above 0
-share-entry : (n : ℕ) (cost : List ℕ) (L s v : ℕ) → s < n → v < n → entry n (filled L n cost .share) s v ≡ share (entry n cost) n s L v
+share-entry : (n : ℕ) (lay : Layout) (L s v : ℕ) → s < n → v < n → entry n (filled L n lay .share) s v ≡ share (costsIn n lay s) n s L v
 unfolding filled
-share-entry n cost L s v k l = entry-table n (λ s. share (entry n cost) n s L) s v k l
+share-entry n lay L s v k l = entry-table n (λ s. share (costsIn n lay s) n s L) s v k l
 
-abbrev pub NoShares : ℕ → List ℕ → Type 0
-NoShares n cost = (s v : ℕ) → s < n → v < n → entry n (filled scale n cost .share) s v ≡ 0
+abbrev pub NoShares : ℕ → Layout → Type 0
+NoShares n lay = (s v : ℕ) → s < n → v < n → entry n (filled scale n lay .share) s v ≡ 0
 
 back : (x : ℕ) → oldPerNew * x / oldPerNew ≡ x
 back x = mul-div-cancel-left x (lit< tt)
 
 -- a hall in which no pair has more than 12 ways
-module _ (n : ℕ) (cost : List ℕ) (few : uncrowded mostWays n cost ≡ true) where
-  abbrev W : Costs
-  W = entry n cost
+module _ (n : ℕ) (lay : Layout) (few : uncrowded mostWays n lay ≡ true) where
+  abbrev W : ℕ → Costs
+  W = costsIn n lay
 
-  few-ways : (s t : ℕ) → s < n → t < n → ways W n s t ≤ mostWays
+  few-ways : (s t : ℕ) → s < n → t < n → ways (W s) n s t ≤ mostWays
   unfolding uncrowded
-  few-ways s t k l = leb-true (ways W n s t) mostWays (all-true n _ (all-true n _ few s k) t l)
+  few-ways s t k l = leb-true (ways (W s) n s t) mostWays (all-true n _ (all-true n _ few s k) t l)
 
   -- the old limit is kept too
-  few-old : uncrowded oldMostWays n cost ≡ true
+  few-old : uncrowded oldMostWays n lay ≡ true
   unfolding uncrowded
-  few-old = all-of n _ (λ s k. all-of n _ (λ t l. le-leb (ways W n s t) oldMostWays (omega (arith, few-ways s t k l))))
+  few-old = all-of n _ (λ s k. all-of n _ (λ t l. le-leb (ways (W s) n s t) oldMostWays (omega (arith, few-ways s t k l))))
 
   -- by the old scale a share and a score are 8,398 times what they are by the new one
-  old-share : (s v : ℕ) → s < n → share W n s oldScale v ≡ oldPerNew * share W n s scale v
-  old-share s v k = share-scaled W n scale oldPerNew s v (λ t l some. whole (ways W n s t) some (few-ways s t k l))
+  old-share : (s v : ℕ) → s < n → share (W s) n s oldScale v ≡ oldPerNew * share (W s) n s scale v
+  old-share s v k = share-scaled (W s) n scale oldPerNew s v (λ t l some. whole (ways (W s) n s t) some (few-ways s t k l))
 
   old-score : (v : ℕ) → score W n oldScale v ≡ oldPerNew * score W n scale v
-  old-score v = score-scaled W n scale oldPerNew v (λ s t k l some. whole (ways W n s t) some (few-ways s t k l))
+  old-score v = score-scaled W n scale oldPerNew v (λ s t k l some. whole (ways (W s) n s t) some (few-ways s t k l))
 
   -- so division gives the tables of the new one
-  shares-divided : divided (filled oldScale n cost .share) ≡ filled scale n cost .share
+  shares-divided : divided (filled oldScale n lay .share) ≡ filled scale n lay .share
   unfolding filled
   shares-divided =
-      let old : List ℕ = table n (λ s. share W n s oldScale) in
-      table-of n (λ s. share W n s scale) (divided old) (length-map old (λ x. x / oldPerNew) ∙ length-table n (λ s. share W n s oldScale))
+      let old : List ℕ = table n (λ s. share (W s) n s oldScale) in
+      table-of n (λ s. share (W s) n s scale) (divided old) (length-map old (λ x. x / oldPerNew) ∙ length-table n (λ s. share (W s) n s oldScale))
       (λ s v k l.
-      List·getD-map (λ x. x / oldPerNew) old (s * n + v) 0 ∙ ap (λ x. x / oldPerNew) (entry-table n (λ s. share W n s oldScale) s v k l ∙ old-share s v k) ∙
-      back (share W n s scale v))
+      List·getD-map (λ x. x / oldPerNew) old (s * n + v) 0 ∙ ap (λ x. x / oldPerNew) (entry-table n (λ s. share (W s) n s oldScale) s v k l ∙ old-share s v k) ∙
+      back (share (W s) n s scale v))
 
-  scores-divided : divided (filled oldScale n cost .score) ≡ filled scale n cost .score
+  scores-divided : divided (filled oldScale n lay .score) ≡ filled scale n lay .score
   unfolding filled
   scores-divided =
       let old : List ℕ = listTo n (score W n oldScale) in
@@ -81,19 +82,19 @@ module _ (n : ℕ) (cost : List ℕ) (few : uncrowded mostWays n cost ≡ true) 
       back (score W n scale v))
 
   -- the two scales give the same tables exactly where every share is 0
-  same-none : filled oldScale n cost ≡ filled scale n cost → NoShares n cost
+  same-none : filled oldScale n lay ≡ filled scale n lay → NoShares n lay
   same-none e s v k l =
-      let same : entry n (filled oldScale n cost .share) s v ≡ entry n (filled scale n cost .share) s v = ap (λ t. entry n (t .share) s v) e in
-      omega (arith, share-entry n cost scale s v k l, share-entry n cost oldScale s v k l, same, old-share s v k)
+      let same : entry n (filled oldScale n lay .share) s v ≡ entry n (filled scale n lay .share) s v = ap (λ t. entry n (t .share) s v) e in
+      omega (arith, share-entry n lay scale s v k l, share-entry n lay oldScale s v k l, same, old-share s v k)
 
-  none-same : NoShares n cost → filled oldScale n cost ≡ filled scale n cost
+  none-same : NoShares n lay → filled oldScale n lay ≡ filled scale n lay
   unfolding filled score
-  none-same none = λ i. record { cost = cost; time = table n (leastTime W n); ways = table n (ways W n); share = shares i; score = scores i }
+  none-same none = λ i. record { layout = lay; time = table n (λ s. leastTime (W s) n s); ways = table n (λ s. ways (W s) n s); share = shares i; score = scores i }
     where
-      no-share : (s v : ℕ) → s < n → v < n → share W n s scale v ≡ 0
-      no-share s v k l = sym (share-entry n cost scale s v k l) ∙ none s v k l
+      no-share : (s v : ℕ) → s < n → v < n → share (W s) n s scale v ≡ 0
+      no-share s v k l = sym (share-entry n lay scale s v k l) ∙ none s v k l
 
-      shares : table n (λ s. share W n s oldScale) ≡ table n (λ s. share W n s scale)
+      shares : table n (λ s. share (W s) n s oldScale) ≡ table n (λ s. share (W s) n s scale)
       shares = table-cong n _ _ (λ s v k l. omega (arith, old-share s v k, no-share s v k l))
 
       no-score : (v : ℕ) → v < n → score W n scale v ≡ 0
@@ -105,98 +106,131 @@ module _ (n : ℕ) (cost : List ℕ) (few : uncrowded mostWays n cost ≡ true) 
 abbrev pub moving : ℕ → Call
 moving n = record { n = n; ask = moveOver }
 
--- an accepted moving call, on any tables
-module _ (n : ℕ) (t : Tables) (ok : refusal (moving n) t ≡ Accepted) where
+-- an accepted moving call, on any tables that it can be lent: their passing times are 0
+module _ (n : ℕ) (t : Tables) (alone : t .layout ≡ linksAlone n (t .layout)) (ok : refusal (moving n) t ≡ Accepted) where
   -- it found the tables of a hall of the old numbers, in which no pair has more than 12 ways
-  pub move-held : Held n (t .cost)
+  old-right : right oldScale oldMostWays n t ≡ true
   unfolding rule
-  move-held = accepted-held (moving n) t ok
+  old-right = subst⁻¹ (λ l. right oldScale oldMostWays n (withLayout l t) ≡ true) alone (audited (moving n) t ok)
 
-  pub move-found : filled oldScale n (t .cost) ≡ t
+  pub move-held : Held n (t .layout)
   unfolding rule
-  move-found = right-true oldScale oldMostWays n t (audited (moving n) t ok) .2
+  move-held = let (size, lengths, tests) = passed (moving n) t ok in subst⁻¹ (Held n) alone (held-old n t size lengths (audited (moving n) t ok) tests)
 
-  pub move-leaves : after (moving n) t ≡ filled scale n (t .cost)
+  pub move-found : filled oldScale n (t .layout) ≡ t
+  move-found = right-true oldScale oldMostWays n t old-right .2
+
+  pub move-leaves : after (moving n) t ≡ filled scale n (t .layout)
   unfolding rule
   move-leaves = accepted-filled (moving n) t ok
 
-  -- it divides every share and every score; costs, times and ways stay
-  pub move-divides : after (moving n) t ≡ record { cost = t .cost; time = t .time; ways = t .ways; share = divided (t .share); score = divided (t .score) }
+  -- it divides every share and every score; costs, passing times, times and ways stay
+  pub move-divides : after (moving n) t ≡ record { layout = t .layout; time = t .time; ways = t .ways; share = divided (t .share); score = divided (t .score) }
   unfolding filled
   move-divides =
       let few = move-held .few in
       move-leaves ∙ λ i.
       record {
-        cost = t .cost;
+        layout = t .layout;
         time = move-found i .time;
         ways = move-found i .ways;
-        share = (sym (shares-divided n (t .cost) few) ∙ ap (λ t. divided (t .share)) move-found) i;
-        score = (sym (scores-divided n (t .cost) few) ∙ ap (λ t. divided (t .score)) move-found) i;
+        share = (sym (shares-divided n (t .layout) few) ∙ ap (λ t. divided (t .share)) move-found) i;
+        score = (sym (scores-divided n (t .layout) few) ∙ ap (λ t. divided (t .score)) move-found) i;
       }
 
-  -- what it leaves equals a working out of the same costs
-  pub move-works-out : let c : Call = record { n = n; ask = workOut (t .cost) } in (refusal c t ≡ Accepted) × (after (moving n) t ≡ after c t)
+  -- what it leaves equals a working out of the same layout
+  pub move-works-out : let c : Call = record { n = n; ask = workOut (t .layout) } in (refusal c t ≡ Accepted) × (after (moving n) t ≡ after c t)
   unfolding rule
   move-works-out =
-      let c : Call = record { n = n; ask = workOut (t .cost) } in
-      let taken = held-worked n (t .cost) t move-held (passed (moving n) t ok .1) in
+      let c : Call = record { n = n; ask = workOut (t .layout) } in
+      let taken = held-worked n (t .layout) t move-held (passed (moving n) t ok .1) in
       (taken, move-leaves ∙ sym (accepted-filled c t taken))
 
 -- on the tables of a hall of the old numbers it tests 11 alone
-module _ (n : ℕ) (t : Tables) (size : upTo mostStops n ≡ true) (lengths : sized n t ≡ true) (old : right oldScale oldMostWays n t ≡ true) where
-  old-refusal : refusal (moving n) t ≡ waysTest n (t .cost)
+module _ (n : ℕ) (t : Tables) (alone : t .layout ≡ linksAlone n (t .layout)) (size : upTo mostStops n ≡ true) (lengths : sized n t ≡ true)
+    (old : right oldScale oldMostWays n t ≡ true) where
+  old-refusal : refusal (moving n) t ≡ waysTest n (t .layout)
   unfolding refusal rule
-  old-refusal = rw (size, lengths, old)
+  old-refusal = rw (← alone, size, lengths, none-brief n, old)
 
   -- and passes it exactly if all ways are 12 or fewer
   pub move-eleven : refusal (moving n) t ≡ need (allTo n (λ s. allTo n (λ v. leb (entry n (t .ways) s v) mostWays))) TooManyWays Accepted
   move-eleven =
-      let same : filled oldScale n (t .cost) ≡ t = right-true oldScale oldMostWays n t old .2 in
-      old-refusal ∙ ap (λ b. need b TooManyWays Accepted) (sym (few-entries oldScale mostWays n (t .cost)) ∙ ap (λ t. allTo n (λ s. allTo n (λ v. leb (entry n (t .ways) s v) mostWays))) same)
+      let same : filled oldScale n (t .layout) ≡ t = right-true oldScale oldMostWays n t old .2 in
+      old-refusal ∙ ap (λ b. need b TooManyWays Accepted) (sym (few-entries oldScale mostWays n (t .layout)) ∙ ap (λ t. allTo n (λ s. allTo n (λ v. leb (entry n (t .ways) s v) mostWays))) same)
 
--- to the tables of costs by the old scale it says 3 where a pair has more than 22 ways, and else 11 where one has more than 12
-pub old-told : (n : ℕ) (cost : List ℕ) → upTo mostStops n ≡ true → length cost ≡ n * n → validCosts n cost ≡ true →
-    refusal (moving n) (filled oldScale n cost) ≡ need (uncrowded oldMostWays n cost) BadTables (waysTest n cost)
+-- to the tables of links alone by the old scale it says 3 where a pair has more than 22 ways, and else 11 where one has more than 12
+pub old-told : (n : ℕ) (lay : Layout) → upTo mostStops n ≡ true → length (lay .cost) ≡ n * n → validCosts n (lay .cost) ≡ true →
+    let l : Layout = linksAlone n lay in
+    refusal (moving n) (filled oldScale n l) ≡ need (uncrowded oldMostWays n l) BadTables (waysTest n l)
 unfolding refusal rule right filled
-old-told n cost size square valid = rw (size, sized-filled oldScale n n cost square ∙ eq-eqb n n refl, valid, same-refl, same-refl, same-refl, same-refl) (go (uncrowded oldMostWays n cost))
+old-told n lay size square valid =
+    rw (size, sized-filled oldScale n n (linksAlone n lay) square (length-replicate n 0) ∙ eq-eqb n n refl, none-brief n, valid, same-refl, same-refl, same-refl, same-refl)
+    (go (uncrowded oldMostWays n (linksAlone n lay)))
   where
-    go : (b : Bool) → need (b && true) BadTables (waysTest n cost) ≡ need b BadTables (waysTest n cost)
+    go : (b : Bool) → need (b && true) BadTables (waysTest n (linksAlone n lay)) ≡ need b BadTables (waysTest n (linksAlone n lay))
     go true = refl
     go false = refl
 
 -- so a hall worked out by the old numbers, in which no pair has more than 12 ways, is moved to the tables of the new ones
-pub old-moved : (n : ℕ) (cost : List ℕ) → Held n cost → let t : Tables = filled oldScale n cost in
-    (refusal (moving n) t ≡ Accepted) × (after (moving n) t ≡ filled scale n cost)
+pub old-moved : (n : ℕ) (lay : Layout) → Held n (linksAlone n lay) → let l : Layout = linksAlone n lay in
+    (refusal (moving n) (filled oldScale n l) ≡ Accepted) × (after (moving n) (filled oldScale n l) ≡ filled scale n l)
 unfolding filled
-old-moved n cost h =
-    let within : need (uncrowded oldMostWays n cost) BadTables (waysTest n cost) ≡ Accepted = rw (few-old n cost (h .few), h .few) in
-    let ok = old-told n cost (h .size) (h .square) (h .valid) ∙ within in
-    (ok, move-leaves n (filled oldScale n cost) ok)
+old-moved n lay h =
+    let l : Layout = linksAlone n lay in
+    let within : need (uncrowded oldMostWays n l) BadTables (waysTest n l) ≡ Accepted = rw (few-old n l (h .few), h .few) in
+    let ok = old-told n lay (h .size) (h .square) (h .valid) ∙ within in
+    (ok, move-leaves n (filled oldScale n l) refl ok)
 
 -- accepted or refused, it leaves the book as it is
 pub move-book : (n : ℕ) (b : Book) → bookAfter (moving n) b ≡ b
 unfolding bookAfter rule
 move-book n b = go (accepted (bookRefusal (moving n) b))
   where
-    go : (x : Bool) → record { stops = b .stops; links = cond x (b .links) (b .links) } ≡ b
+    go : (x : Bool) → record { stops = b .stops; layout = cond x (b .layout) (b .layout) } ≡ b
     go true = refl
     go false = refl
 
--- to the tables of a book it says 3 with any share above 0, and accepts where there is none
-module _ (b : Book) (h : Held (b .stops) (b .links)) where
-  pub told-book : bookRefusal (moving (b .stops)) b ≡ need (right oldScale oldMostWays (b .stops) (tablesOf b)) BadTables Accepted
+-- to the tables of a book it says 3 with any share above 0, and where they are not also those of links alone
+module _ (b : Book) (h : Held (b .stops) (b .layout)) where
+  abbrev bare : Layout
+  bare = linksAlone (b .stops) (b .layout)
+
+  abbrev alike : Bool
+  alike = right oldScale oldMostWays (b .stops) (withLayout bare (tablesOf b))
+
+  -- where they are, no pair of the links alone has more ways than the limit
+  few-alone : alike ≡ true → uncrowded mostWays (b .stops) bare ≡ true
+  unfolding uncrowded
+  few-alone e = all-cong (b .stops) (λ s k. all-cong (b .stops) (λ t l. ap (λ x. leb x mostWays) (sym (same-ways (b .stops) (b .layout) e s t k l)))) ∙ h .few
+
+  pub told-book : bookRefusal (moving (b .stops)) b ≡ need alike BadTables Accepted
   unfolding bookRefusal rule
-  told-book = rw (h .size, eq-eqb (b .stops) (b .stops) refl, h .few)
+  told-book = rw (h .size, eq-eqb (b .stops) (b .stops) refl, none-brief (b .stops)) (go alike refl)
+    where
+      go : (x : Bool) → alike ≡ x → need x BadTables (waysTest (b .stops) bare) ≡ need x BadTables Accepted
+      go true e = rw (few-alone e)
+      go false e = refl
 
   pub move-three : (s v : ℕ) → s < b .stops → v < b .stops → 0 < entry (b .stops) (tablesOf b .share) s v → bookRefusal (moving (b .stops)) b ≡ BadTables
   unfolding filled
-  move-three s v k l some = told-book ∙ go (right oldScale oldMostWays (b .stops) (tablesOf b)) refl
+  move-three s v k l some = told-book ∙ go alike refl
     where
-      go : (x : Bool) → right oldScale oldMostWays (b .stops) (tablesOf b) ≡ x → need x BadTables Accepted ≡ BadTables
-      go true e = absurd (omega (arith, some, same-none (b .stops) (b .links) (h .few) (right-true oldScale oldMostWays (b .stops) (tablesOf b) e .2) s v k l))
+      N : ℕ
+      N = b .stops
+
+      go : (x : Bool) → alike ≡ x → need x BadTables Accepted ≡ BadTables
+      go true e =
+          let same : entry N (filled oldScale N bare .share) s v ≡ entry N (tablesOf b .share) s v = ap (λ t. entry N (t .share) s v) (right-true oldScale oldMostWays N (withLayout bare (tablesOf b)) e .2) in
+          let shown = share-entry N (b .layout) scale s v k l in
+          let plain = same-shares N (b .layout) e scale s v k in
+          absurd (omega (arith, some, same, shown, plain, share-entry N bare oldScale s v k l, old-share N bare (few-alone e) s v k))
       go false e = refl
 
-  pub move-taken : NoShares (b .stops) (b .links) → bookRefusal (moving (b .stops)) b ≡ Accepted
-  move-taken none =
-      let sound = right-filled oldScale oldMostWays (b .stops) (b .links) (h .valid) (few-old (b .stops) (b .links) (h .few)) in
-      told-book ∙ ap (λ x. need x BadTables Accepted) (subst (λ t. right oldScale oldMostWays (b .stops) t ≡ true) (none-same (b .stops) (b .links) (h .few) none) sound)
+  -- with passing times of 0 it accepts where there is no share above 0
+  pub move-taken : b .layout ≡ bare → NoShares (b .stops) (b .layout) → bookRefusal (moving (b .stops)) b ≡ Accepted
+  unfolding filled
+  move-taken alone none =
+      let sound = right-filled oldScale oldMostWays (b .stops) (b .layout) (h .valid) (few-old (b .stops) (b .layout) (h .few)) in
+      let now : right oldScale oldMostWays (b .stops) (tablesOf b) ≡ true = subst (λ t. right oldScale oldMostWays (b .stops) t ≡ true) (none-same (b .stops) (b .layout) (h .few) none) sound in
+      told-book ∙ ap (λ x. need x BadTables Accepted) (subst (λ l. right oldScale oldMostWays (b .stops) (withLayout l (tablesOf b)) ≡ true) alone now)

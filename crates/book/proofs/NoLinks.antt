@@ -10,7 +10,7 @@ use borrow.Author.Tests.{le-leb, ltb-true, ltb-false}
 use Rattle.routes.specs.Route.{Costs, sumTo, count, time, hops, routes, leastTime, quickest, ways}
 use Rattle.routes.proofs.Sums.{all-of, sumTo-zero}
 use Rattle.routes.proofs.Counting.{count-join}
-use Rattle.book.specs.Hall.{entry, validCosts, uncrowded}
+use Rattle.book.specs.Hall.{entry, costsIn, validCosts, noLinks, uncrowded}
 use Rattle.book.proofs.Tables.{costs-valid}
 
 -- no entry
@@ -48,9 +48,13 @@ ways-none W n s t none =
     first-only f (suc zero) h z = omega arith
     first-only f (suc (suc n)) h z = omega (arith, first-only f (suc n) h z, z n)
 
--- no crowded pair
-pub uncrowded-none : (m n : ℕ) → 0 < m → uncrowded m n (replicate (n * n) 0) ≡ true
+-- no crowded pair, whatever the passing times
+pub uncrowded-none : (m n : ℕ) (passing : List ℕ) → 0 < m → uncrowded m n (noLinks n passing) ≡ true
 unfolding uncrowded
-uncrowded-none m n h =
-    let W : Costs = entry n (replicate (n * n) 0) in
-    all-of n _ (λ s hs. all-of n _ (λ t ht. le-leb (ways W n s t) m (omega (arith, ways-none W n s t (entry-none (n * n) n)))))
+uncrowded-none m n passing h = all-of n _ (λ s hs. all-of n _ (λ t ht. le-leb (ways (C s) n s t) m (omega (arith, ways-none (C s) n s t (none s)))))
+  where
+    C : ℕ → Costs
+    C = costsIn n (noLinks n passing)
+
+    none : (s u v : ℕ) → C s u v ≡ 0
+    none s u v = rw (entry-none (n * n) n u v)

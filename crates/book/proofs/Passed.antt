@@ -9,13 +9,13 @@ use native.Mathlib.Omega.{arith}
 use lib.Dec.{eqb, ltb, leb}
 use borrow.Author.Tests.{eqb-true, eqb-false, leb-true, ltb-true, le-ltb, not-true}
 use Rattle.routes.proofs.Booleans.{both}
-use Rattle.book.specs.Hall.{Tables, mostStops, largestCost, mostWays, upTo, entry, sized, validPair, uncrowded}
+use Rattle.book.specs.Hall.{Layout, Tables, mostStops, largestCost, mostWays, upTo, entry, sized, validPassing, validPair, uncrowded}
 use Rattle.book.specs.Call.{Call, edit, accepted, need, otherCostTests, costTests, waysTest, costSet, withEdit, editRefusal, Verdict, judged, Rule, rule, chain, refusal}
 use Rattle.book.specs.declared.Edit.{Edit}
 use Rattle.book.specs.declared.Kind.{Kind}
 use Rattle.book.specs.declared.Kind.the-variants.{Insert, Cheapen, Raise, Delete}
 use Rattle.book.specs.declared.Refusal.{Refusal}
-use Rattle.book.specs.declared.Refusal.the-variants.{Accepted, BadSize, BadLength, BadTables, BadStop, BadCost, LinkPresent, LinkAbsent, CostWrongSide, BadImage, ShortBuffer, TooManyWays, ListTooLong}
+use Rattle.book.specs.declared.Refusal.the-variants.{Accepted, BadSize, BadLength, BadTables, BadStop, BadCost, LinkPresent, LinkAbsent, CostWrongSide, BadImage, ShortBuffer, TooManyWays, ListTooLong, BadPassing}
 
 -- a chain of tests accepts where its first test passes and the rest accepts
 pub need-true : (p : Bool) (r next : Refusal) → accepted r ≡ false → accepted (need p r next) ≡ true → (p ≡ true) × (accepted next ≡ true)
@@ -37,42 +37,47 @@ accepted-only BadImage e = absurd (both e refl)
 accepted-only ShortBuffer e = absurd (both e refl)
 accepted-only TooManyWays e = absurd (both e refl)
 accepted-only ListTooLong e = absurd (both e refl)
+accepted-only BadPassing e = absurd (both e refl)
 
 -- a chain of all tests accepts where each passes
-pub chain-true : (n : ℕ) (lengths sound : Bool) (tests : Refusal) → accepted (chain n lengths sound tests) ≡ true →
-    (upTo mostStops n ≡ true) × (lengths ≡ true) × (sound ≡ true) × (accepted tests ≡ true)
-chain-true n lengths sound tests e =
+pub chain-true : (n : ℕ) (lengths passable sound : Bool) (tests : Refusal) → accepted (chain n lengths passable sound tests) ≡ true →
+    (upTo mostStops n ≡ true) × (lengths ≡ true) × (passable ≡ true) × (sound ≡ true) × (accepted tests ≡ true)
+chain-true n lengths passable sound tests e =
     let (size, e₁) = need-true (upTo mostStops n) BadSize _ refl e in
     let (long, e₂) = need-true lengths BadLength _ refl e₁ in
-    let (right, e₃) = need-true sound BadTables tests refl e₂ in
-    (size, long, right, e₃)
+    let (brief, e₃) = need-true passable BadPassing _ refl e₂ in
+    let (right, e₄) = need-true sound BadTables tests refl e₃ in
+    (size, long, brief, right, e₄)
 
 -- an accepted call: its n is valid, the tables have their lengths, and its own tests accept; what it brings fits, and what it audits is right
 module _ (c : Call) (t : Tables) (e : refusal c t ≡ Accepted) where
   abbrev r : Rule
-  r = rule (c .n) (c .ask) (t .cost)
+  r = rule (c .n) (c .ask) (t .layout)
 
-  all : (upTo mostStops (c .n) ≡ true) × ((r .fits && sized (c .n) t) ≡ true) × (r .sound t ≡ true) × (accepted (r .tests) ≡ true)
+  all : (upTo mostStops (c .n) ≡ true) × ((r .fits && sized (c .n) t) ≡ true) × (validPassing (c .n) (r .lent .passing) ≡ true) × (r .sound t ≡ true) × (accepted (r .tests) ≡ true)
   unfolding refusal
-  all = chain-true (c .n) (r .fits && sized (c .n) t) (r .sound t) (r .tests) (ap accepted e)
+  all = chain-true (c .n) (r .fits && sized (c .n) t) (validPassing (c .n) (r .lent .passing)) (r .sound t) (r .tests) (ap accepted e)
 
   pub passed : (upTo mostStops (c .n) ≡ true) × (sized (c .n) t ≡ true) × (accepted (r .tests) ≡ true)
-  passed = let (size, lengths, sound, tests) = all in (size, and-eq-true-iff (r .fits) (sized (c .n) t) .0 lengths .1, tests)
+  passed = let (size, lengths, brief, sound, tests) = all in (size, and-eq-true-iff (r .fits) (sized (c .n) t) .0 lengths .1, tests)
 
   pub fitted : r .fits ≡ true
-  fitted = let (size, lengths, sound, tests) = all in and-eq-true-iff (r .fits) (sized (c .n) t) .0 lengths .0
+  fitted = let (size, lengths, brief, sound, tests) = all in and-eq-true-iff (r .fits) (sized (c .n) t) .0 lengths .0
 
   pub audited : r .sound t ≡ true
-  audited = let (size, lengths, sound, tests) = all in sound
+  audited = let (size, lengths, brief, sound, tests) = all in sound
+
+  pub brief : validPassing (c .n) (r .lent .passing) ≡ true
+  brief = let (size, lengths, brief, sound, tests) = all in brief
 
 -- an accepted edit
-pub record Permitted (n : ℕ) (e : Edit) (cost : List ℕ) : Type 0 where
+pub record Permitted (n : ℕ) (e : Edit) (lay : Layout) : Type 0 where
   pub from : e .u < n
   pub to : e .v < n
   pub apart : e .u ≢ e .v
   pub fits : costSet (e .kind) (e .cost) ≤ largestCost
-  pub differs : entry n cost (e .u) (e .v) ≢ costSet (e .kind) (e .cost)
-  pub few : uncrowded mostWays n (withEdit n e cost) ≡ true
+  pub differs : entry n (lay .cost) (e .u) (e .v) ≢ costSet (e .kind) (e .cost)
+  pub few : uncrowded mostWays n (withEdit n e lay) ≡ true
 
 -- a number from 1 to m
 pub up-to : (m x : ℕ) → upTo m x ≡ true → (0 < x) × (x ≤ m)
@@ -105,14 +110,14 @@ cost-tests Delete c present next e =
     let (there, e₁) = need-true (ltb 0 present) LinkAbsent next refl e in
     (omega arith, omega (arith, ltb-true 0 present there), e₁)
 
-pub permitted : (n : ℕ) (e : Edit) (cost : List ℕ) → accepted (rule n (edit e) cost .tests) ≡ true → Permitted n e cost
+pub permitted : (n : ℕ) (e : Edit) (lay : Layout) → accepted (rule n (edit e) lay .tests) ≡ true → Permitted n e lay
 unfolding rule
-permitted n e cost ok =
+permitted n e lay ok =
     let u : ℕ = e .u in
     let v : ℕ = e .v in
-    let left : List ℕ = withEdit n e cost in
+    let left : Layout = withEdit n e lay in
     let (pair, ok₁) = need-true (validPair n u v) BadStop _ refl ok in
-    let (fits, differs, ok₂) = cost-tests (e .kind) (e .cost) (entry n cost u v) (waysTest n left) ok₁ in
+    let (fits, differs, ok₂) = cost-tests (e .kind) (e .cost) (entry n (lay .cost) u v) (waysTest n left) ok₁ in
     let (from, rest) = and-eq-true-iff (ltb u n) (ltb v n && not (eqb u v)) .0 pair in
     let (to, other) = and-eq-true-iff (ltb v n) (not (eqb u v)) .0 rest in
     record {
@@ -125,23 +130,23 @@ permitted n e cost ok =
     }
 
 -- an accepted list: its first edit is accepted, and the rest in the hall that it made
-pub judged-true : (n k : ℕ) (e : Edit) (rest : List Edit) (cost : List ℕ) → accepted (judged n k (e ∷ rest) cost .refusal) ≡ true →
-    (accepted (editRefusal n e cost) ≡ true) × (accepted (judged n (k + 1) rest (withEdit n e cost) .refusal) ≡ true)
+pub judged-true : (n k : ℕ) (e : Edit) (rest : List Edit) (lay : Layout) → accepted (judged n k (e ∷ rest) lay .refusal) ≡ true →
+    (accepted (editRefusal n e lay) ≡ true) × (accepted (judged n (k + 1) rest (withEdit n e lay) .refusal) ≡ true)
 unfolding judged
-judged-true n k e rest cost ok = go (accepted (editRefusal n e cost)) refl ok
+judged-true n k e rest lay ok = go (accepted (editRefusal n e lay)) refl ok
   where
     then : Verdict
-    then = judged n (k + 1) rest (withEdit n e cost)
+    then = judged n (k + 1) rest (withEdit n e lay)
 
-    go : (b : Bool) → accepted (editRefusal n e cost) ≡ b → accepted (cond b then (record { refusal = editRefusal n e cost; place = k }) .refusal) ≡ true →
-        (accepted (editRefusal n e cost) ≡ true) × (accepted (then .refusal) ≡ true)
+    go : (b : Bool) → accepted (editRefusal n e lay) ≡ b → accepted (cond b then (record { refusal = editRefusal n e lay; place = k }) .refusal) ≡ true →
+        (accepted (editRefusal n e lay) ≡ true) × (accepted (then .refusal) ≡ true)
     go true first ok = (first, ok)
     go false first ok = absurd (both ok first)
 
 -- a hall of one stop has no two: every edit is 4
-pub edit-alone : (e : Edit) (cost : List ℕ) → rule 1 (edit e) cost .tests ≡ BadStop
+pub edit-alone : (e : Edit) (lay : Layout) → rule 1 (edit e) lay .tests ≡ BadStop
 unfolding rule
-edit-alone e cost = go (e .u) (e .v) _
+edit-alone e lay = go (e .u) (e .v) _
   where
     go : (u v : ℕ) (next : Refusal) → need (validPair 1 u v) BadStop next ≡ BadStop
     go zero zero next = refl

@@ -5,13 +5,13 @@ use mathlib.Core.Bool.{Bool, true, false, cond, _||_}
 use mathlib.Core.List.{List, [], _∷_}
 use lib.Dec.{eqb, ltb}
 use Rattle.routes.proofs.Booleans.{both}
-use Rattle.book.specs.Hall.{largestCost, mostWays, upTo, entry, validPair, uncrowded}
+use Rattle.book.specs.Hall.{Layout, largestCost, mostWays, upTo, entry, validPair, uncrowded}
 use Rattle.book.specs.Call.{number, accepted, need, otherCostTests, costTests, withEdit, editRefusal, Verdict, judged, ofAnEdit}
 use Rattle.book.specs.declared.Edit.{Edit}
 use Rattle.book.specs.declared.Kind.{Kind}
 use Rattle.book.specs.declared.Kind.the-variants.{Insert, Cheapen, Raise, Delete}
 use Rattle.book.specs.declared.Refusal.{Refusal}
-use Rattle.book.specs.declared.Refusal.the-variants.{Accepted, BadSize, BadLength, BadTables, BadStop, BadCost, LinkPresent, LinkAbsent, CostWrongSide, BadImage, ShortBuffer, TooManyWays, ListTooLong}
+use Rattle.book.specs.declared.Refusal.the-variants.{Accepted, BadSize, BadLength, BadTables, BadStop, BadCost, LinkPresent, LinkAbsent, CostWrongSide, BadImage, ShortBuffer, TooManyWays, ListTooLong, BadPassing}
 
 -- a refusal that is an edit's, or acceptance
 pub record Told (r : Refusal) : Type 0 where
@@ -34,25 +34,25 @@ cost-told Cheapen c present f = other-cost-told (ltb c present) c present f
 cost-told Raise c present f = other-cost-told (ltb present c) c present f
 cost-told Delete c present f = need-told (ltb 0 present) LinkAbsent refl f
 
-pub edit-told : (n : ℕ) (e : Edit) (cost : List ℕ) → Told (editRefusal n e cost)
-edit-told n e cost =
-    need-told (validPair n (e .u) (e .v)) BadStop refl (cost-told (e .kind) (e .cost) (entry n cost (e .u) (e .v)) (need-told (uncrowded mostWays n (withEdit n e cost)) TooManyWays refl accepted-told))
+pub edit-told : (n : ℕ) (e : Edit) (lay : Layout) → Told (editRefusal n e lay)
+edit-told n e lay =
+    need-told (validPair n (e .u) (e .v)) BadStop refl (cost-told (e .kind) (e .cost) (entry n (lay .cost) (e .u) (e .v)) (need-told (uncrowded mostWays n (withEdit n e lay)) TooManyWays refl accepted-told))
 
-pub judged-told : (n k : ℕ) (edits : List Edit) (cost : List ℕ) → Told (judged n k edits cost .refusal)
+pub judged-told : (n k : ℕ) (edits : List Edit) (lay : Layout) → Told (judged n k edits lay .refusal)
 unfolding judged
-judged-told n k [] cost = accepted-told
-judged-told n k (e ∷ rest) cost = go (accepted (editRefusal n e cost)) (judged n (k + 1) rest (withEdit n e cost)) (judged-told n (k + 1) rest (withEdit n e cost))
+judged-told n k [] lay = accepted-told
+judged-told n k (e ∷ rest) lay = go (accepted (editRefusal n e lay)) (judged n (k + 1) rest (withEdit n e lay)) (judged-told n (k + 1) rest (withEdit n e lay))
   where
-    go : (b : Bool) (later : Verdict) → Told (later .refusal) → Told (cond b later (record { refusal = editRefusal n e cost; place = k }) .refusal)
+    go : (b : Bool) (later : Verdict) → Told (later .refusal) → Told (cond b later (record { refusal = editRefusal n e lay; place = k }) .refusal)
     go true later told = told
-    go false later told = edit-told n e cost
+    go false later told = edit-told n e lay
 
 -- a list that is refused at an edit tells its place
-pub edit-tells : (n k : ℕ) (edits : List Edit) (cost : List ℕ) → accepted (judged n k edits cost .refusal) ≡ false → ofAnEdit (judged n k edits cost .refusal) ≡ true
-edit-tells n k edits cost shut = judged-told n k edits cost .tells shut
+pub edit-tells : (n k : ℕ) (edits : List Edit) (lay : Layout) → accepted (judged n k edits lay .refusal) ≡ false → ofAnEdit (judged n k edits lay .refusal) ≡ true
+edit-tells n k edits lay shut = judged-told n k edits lay .tells shut
 
--- for 1, 2, 3 and 12 none is told
-pub none-told : (r : Refusal) (place : ℕ) → (ltb (number r) 4 || eqb (number r) 12) ≡ true → cond (ofAnEdit r) place 0 ≡ 0
+-- for 1, 2, 3, 12 and 13 none is told
+pub none-told : (r : Refusal) (place : ℕ) → (ltb (number r) 4 || ltb 11 (number r)) ≡ true → cond (ofAnEdit r) place 0 ≡ 0
 none-told Accepted place e = refl
 none-told BadSize place e = refl
 none-told BadLength place e = refl
@@ -66,20 +66,21 @@ none-told BadImage place e = absurd (both e refl)
 none-told ShortBuffer place e = absurd (both e refl)
 none-told TooManyWays place e = absurd (both e refl)
 none-told ListTooLong place e = refl
+none-told BadPassing place e = refl
 
 -- one that is refused at no edit has the place 0
-pub accepted-place : (n k : ℕ) (edits : List Edit) (cost : List ℕ) → accepted (judged n k edits cost .refusal) ≡ true → judged n k edits cost .place ≡ 0
+pub accepted-place : (n k : ℕ) (edits : List Edit) (lay : Layout) → accepted (judged n k edits lay .refusal) ≡ true → judged n k edits lay .place ≡ 0
 unfolding judged
-accepted-place n k [] cost ok = refl
-accepted-place n k (e ∷ rest) cost ok = go (accepted (editRefusal n e cost)) refl ok (accepted-place n (k + 1) rest (withEdit n e cost))
+accepted-place n k [] lay ok = refl
+accepted-place n k (e ∷ rest) lay ok = go (accepted (editRefusal n e lay)) refl ok (accepted-place n (k + 1) rest (withEdit n e lay))
   where
     then : Verdict
-    then = judged n (k + 1) rest (withEdit n e cost)
+    then = judged n (k + 1) rest (withEdit n e lay)
 
     stopped : Verdict
-    stopped = record { refusal = editRefusal n e cost; place = k }
+    stopped = record { refusal = editRefusal n e lay; place = k }
 
-    go : (b : Bool) → accepted (editRefusal n e cost) ≡ b → accepted (cond b then stopped .refusal) ≡ true → (accepted (then .refusal) ≡ true → then .place ≡ 0) →
+    go : (b : Bool) → accepted (editRefusal n e lay) ≡ b → accepted (cond b then stopped .refusal) ≡ true → (accepted (then .refusal) ≡ true → then .place ≡ 0) →
         cond b then stopped .place ≡ 0
     go true first ok more = more ok
     go false first ok more = absurd (both ok first)

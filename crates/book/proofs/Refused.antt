@@ -3,20 +3,20 @@ use Prim.Native.Nat.{ℕ}
 use mathlib.Core.Path.{_≡_, refl, sym, _∙_, ap}
 use mathlib.Core.Bool.{Bool, true, false, cond}
 use mathlib.Core.List.{List}
-use Rattle.book.specs.Hall.{Tables}
-use Rattle.book.specs.Call.{Ask, emptyHall, audit, moveOver, workOut, edit, editList, listRoutes, imageWrite, imageRead, Call, accepted, Answer, refusedAt, rule, refusal, after, answer, Done}
-use Rattle.book.specs.Book.{Step, withCost, lent, kept}
+use Rattle.book.specs.Hall.{Layout, laid, linksAlone, Tables, scale, filled}
+use Rattle.book.specs.Call.{Ask, emptyHall, audit, moveOver, workOut, edit, editList, listRoutes, imageWrite, imageRead, Call, accepted, Answer, refusedAt, rule, withLayout, refusal, after, answer, Done}
+use Rattle.book.specs.Book.{Step, lent, kept}
 use Rattle.book.proofs.Answers.{done-refusal}
 use Rattle.book.specs.declared.Edit.{Edit}
 use Rattle.book.specs.declared.Refusal.{Refusal}
 
 -- the buffer that a call is lent
 abbrev pub bufferOf : Call → Tables → List ℕ
-bufferOf c t = rule (c .n) (c .ask) (t .cost) .lentBuffer
+bufferOf c t = rule (c .n) (c .ask) (t .layout) .lentBuffer
 
 -- the place that a refusal of it tells
 abbrev pub placeOf : Call → Tables → Refusal → ℕ
-placeOf c t r = rule (c .n) (c .ask) (t .cost) .place r
+placeOf c t r = rule (c .n) (c .ask) (t .layout) .place r
 
 -- tables and buffer as found, an empty set, no rows, no cost before, length 0
 pub record Unchanged (c : Call) (t t′ : Tables) (a : Answer) : Type 0 where
@@ -51,28 +51,39 @@ pub refused-done : (c : Call) (t : Tables) (r : Refusal) → refusal c t ≡ r �
 unfolding after
 refused-done c t r e f = record { left = rw (e, f); answered = sym (refused-answer c t (rw e f) ∙ ap (λ r. refusedAt r (placeOf c t r) (bufferOf c t)) e) }
 
--- in a sequence the five tables after it are those before it
+-- in a sequence the tables after it are those before it, with the passing times
 pub refused-kept : (s : Step) (t : Tables) → Done (s .call) (lent (s .call) t) (s .left) (s .answer) → accepted (s .answer .refusal) ≡ false → kept s t ≡ t
 refused-kept s t d closed =
     let same = refused-unchanged (s .call) (lent (s .call) t) (s .left) (s .answer) d closed .tables in
     rw (closed, same)
 
--- and a call that brings no table leaves the five tables themselves
+-- and a call that brings no layout leaves the tables themselves
 pub kept-left : (s : Step) (t : Tables) → Done (s .call) (lent (s .call) t) (s .left) (s .answer) → lent (s .call) t ≡ t → kept s t ≡ s .left
+unfolding after filled
 kept-left s t d same = go (accepted (s .answer .refusal)) refl
   where
-    go : (b : Bool) → accepted (s .answer .refusal) ≡ b → withCost (cond b (s .left .cost) (t .cost)) (s .left) ≡ s .left
-    go true e = refl
+    leaves : Layout → Layout
+    leaves lay = rule (s .call .n) (s .call .ask) lay .leaves
+
+    go : (b : Bool) → accepted (s .answer .refusal) ≡ b →
+        withLayout (cond b (laid (s .left .layout .cost) (leaves (t .layout) .passing)) (t .layout)) (s .left) ≡ s .left
+    go true e =
+        let taken : accepted (refusal (s .call) (lent (s .call) t)) ≡ true = ap accepted (sym (done-refusal (s .call) (lent (s .call) t) d)) ∙ e in
+        let left : s .left ≡ filled scale (s .call .n) (leaves (lent (s .call) t .layout)) = d .left ∙ rw taken in
+        let passing : leaves (t .layout) .passing ≡ s .left .layout .passing = sym (ap (λ x. x .layout .passing) left ∙ ap (λ x. leaves (x .layout) .passing) same) in
+        λ i. withLayout (laid (s .left .layout .cost) (passing i)) (s .left)
     go false e =
         let found : s .left ≡ t = refused-unchanged (s .call) (lent (s .call) t) (s .left) (s .answer) d e .tables ∙ same in
         rw found
 
--- every call but work out is lent the five themselves, and work out its own cost table beside four of them; a route list and an image
--- write their buffer
-pub lent-all : (n s x : ℕ) (e : Edit) (edits : List Edit) (cost buffer image : List ℕ) (t : Tables) →
+-- every call but four is lent the tables themselves; work out its own layout beside four of them, empty hall and image read their passing
+-- times, and the moving call passing times of 0; a route list and an image write their buffer
+pub lent-all : (n s x : ℕ) (e : Edit) (edits : List Edit) (brought : Layout) (passing buffer image : List ℕ) (t : Tables) →
     let of : Ask → Tables = λ ask. lent (record { n = n; ask = ask }) t in
     let into : Ask → List ℕ = λ ask. bufferOf (record { n = n; ask = ask }) t in
-    (of emptyHall ≡ t) × (of audit ≡ t) × (of moveOver ≡ t) × (of (edit e) ≡ t) × (of (editList edits) ≡ t) × (of (listRoutes s x buffer) ≡ t) × (of (imageWrite buffer) ≡ t) ×
-    (of (imageRead image) ≡ t) × (of (workOut cost) ≡ withCost cost t) × (into (listRoutes s x buffer) ≡ buffer) × (into (imageWrite buffer) ≡ buffer)
+    (of audit ≡ t) × (of (edit e) ≡ t) × (of (editList edits) ≡ t) × (of (listRoutes s x buffer) ≡ t) × (of (imageWrite buffer) ≡ t) ×
+    (of (workOut brought) ≡ withLayout brought t) × (of (emptyHall passing) ≡ withLayout (laid (t .layout .cost) passing) t) ×
+    (of (imageRead image passing) ≡ withLayout (laid (t .layout .cost) passing) t) × (of moveOver ≡ withLayout (linksAlone n (t .layout)) t) ×
+    (into (listRoutes s x buffer) ≡ buffer) × (into (imageWrite buffer) ≡ buffer)
 unfolding rule
-lent-all n s x e edits cost buffer image t = (refl, refl, refl, refl, refl, refl, refl, refl, refl, refl, refl)
+lent-all n s x e edits brought passing buffer image t = (refl, refl, refl, refl, refl, refl, refl, refl, refl, refl, refl)

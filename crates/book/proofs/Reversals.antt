@@ -2,12 +2,11 @@
 use Prim.Native.Nat.{ℕ, _+_, _*_, _<_, _≤_}
 use mathlib.Core.Path.{_≡_, refl, sym, _∙_, ap}
 use mathlib.Core.Bool.{Bool, true, or-comm}
-use mathlib.Core.List.{List}
 use lib.Dec.{eqb, ltb}
 use lib.Seq.{set-set, set-getD}
 use borrow.Author.Tests.{eqb-true, eq-eqb, ltb-true, lt-ltb, le-leb}
 use Rattle.routes.specs.Route.{used}
-use Rattle.book.specs.Hall.{Tables, largestCost, mostWays, scale, upTo, entry, filled, validPair, right, touched}
+use Rattle.book.specs.Hall.{Layout, Tables, largestCost, mostWays, scale, upTo, entry, filled, validPair, right, touched, laid, costsIn}
 use Rattle.book.specs.Call.{Call, edit, accepted, otherCostTests, costTests, waysTest, costSet, withEdit, rule, refusal, after, answer, reverseKind, reversal}
 use Rattle.book.specs.Book.{Reverses}
 use Rattle.book.specs.declared.Edit.{Edit}
@@ -17,7 +16,7 @@ use Rattle.book.specs.declared.Refusal.{Refusal}
 use Rattle.book.specs.declared.Refusal.the-variants.{Accepted, BadStop, BadCost, LinkPresent, LinkAbsent}
 use Rattle.book.proofs.Tables.{valid-costs}
 use Rattle.book.proofs.Filled.{sized-filled, right-filled, right-true}
-use Rattle.book.proofs.Passed.{need-true, passed, audited, up-to, other-cost-tests, Permitted, permitted}
+use Rattle.book.proofs.Passed.{need-true, passed, audited, up-to, other-cost-tests, Permitted, permitted, brief}
 use Rattle.book.proofs.Steps.{Held, held-right, entry-edited, held-edited, accepted-filled}
 use Rattle.book.proofs.Calls.{edit-taken}
 
@@ -46,25 +45,25 @@ cost-back Delete c present next most e =
     (rw (cost-fits present (ltb-true 0 present there) most), refl)
 
 -- an edit that passes its tests, over the costs of a hall
-module _ (n : ℕ) (e : Edit) (cost : List ℕ) (h : Held n cost) (ok : accepted (rule n (edit e) cost .tests) ≡ true) where
+module _ (n : ℕ) (e : Edit) (lay : Layout) (h : Held n lay) (ok : accepted (rule n (edit e) lay .tests) ≡ true) where
   -- what the link costs before the edit
   abbrev present : ℕ
-  present = entry n cost (e .u) (e .v)
+  present = entry n (lay .cost) (e .u) (e .v)
 
-  abbrev left : List ℕ
-  left = withEdit n e cost
+  abbrev left : Layout
+  left = withEdit n e lay
 
   abbrev back : Edit
-  back = reversal (e .kind) (e .u) (e .v) (rule n (edit e) cost .says)
+  back = reversal (e .kind) (e .u) (e .v) (rule n (edit e) lay .says)
 
   abbrev call : Call
   call = record { n = n; ask = edit back }
 
-  p : Permitted n e cost
-  p = permitted n e cost ok
+  p : Permitted n e lay
+  p = permitted n e lay ok
 
-  set-now : entry n left (e .u) (e .v) ≡ costSet (e .kind) (e .cost)
-  set-now = entry-edited n e cost h p (e .u) (e .v) (p .to) ∙ rw (eq-eqb (e .u) (e .u) refl, eq-eqb (e .v) (e .v) refl)
+  set-now : entry n (left .cost) (e .u) (e .v) ≡ costSet (e .kind) (e .cost)
+  set-now = entry-edited n e lay h p (e .u) (e .v) (p .to) ∙ rw (eq-eqb (e .u) (e .u) refl, eq-eqb (e .v) (e .v) refl)
 
   pair : validPair n (e .u) (e .v) ≡ true
   unfolding rule
@@ -73,27 +72,27 @@ module _ (n : ℕ) (e : Edit) (cost : List ℕ) (h : Held n cost) (ok : accepted
   costs : (costTests (reverseKind (e .kind)) present (costSet (e .kind) (e .cost)) Accepted ≡ Accepted) × (costSet (reverseKind (e .kind)) present ≡ present)
   unfolding rule
   costs =
-      let most = valid-costs n cost (h .valid) .most (e .u) (e .v) (p .from) (p .to) in
+      let most = valid-costs n (lay .cost) (h .valid) .most (e .u) (e .v) (p .from) (p .to) in
       cost-back (e .kind) (e .cost) present (waysTest n left) most (need-true (validPair n (e .u) (e .v)) BadStop _ refl ok .1)
 
   -- the cost before at its place again
-  back-costs : withEdit n back left ≡ cost
+  back-costs : withEdit n back left ≡ lay
   unfolding rule
-  back-costs = set-set cost (e .u * n + e .v) _ _ ∙ rw (costs .1) (set-getD cost (e .u * n + e .v) 0)
+  back-costs = ap (λ x. laid x (lay .passing)) (set-set (lay .cost) (e .u * n + e .v) _ _ ∙ rw (costs .1) (set-getD (lay .cost) (e .u * n + e .v) 0))
 
   back-taken : refusal call (filled scale n left) ≡ Accepted
   unfolding rule filled
   back-taken =
-      let h′ = held-edited n e cost h p in
-      edit-taken n back (filled scale n left) (h .size) (sized-filled scale n n left (h′ .square) ∙ eq-eqb n n refl)
+      let h′ = held-edited n e lay h p in
+      edit-taken n back (filled scale n left) (h .size) (sized-filled scale n n left (h′ .square) (h′ .long) ∙ eq-eqb n n refl) (h .passable)
       (right-filled scale mostWays n left (h′ .valid) (h′ .few)) pair (rw set-now (costs .0)) (rw back-costs (h .few))
 
   -- touched is touched, whichever of the two halls comes first
-  turned : touched n left cost (e .u) (e .v) ≡ touched n cost left (e .u) (e .v)
+  turned : touched n left lay (e .u) (e .v) ≡ touched n lay left (e .u) (e .v)
   unfolding touched
-  turned = λ i s. or-comm (used (entry n left) n s (e .u) (e .v)) (used (entry n cost) n s (e .u) (e .v)) i
+  turned = λ i s. or-comm (used (costsIn n left s) n s (e .u) (e .v)) (used (costsIn n lay s) n s (e .u) (e .v)) i
 
-  pub rule-reversed : Reverses call (filled scale n cost) (filled scale n left) (rule n (edit e) cost .says)
+  pub rule-reversed : Reverses call (filled scale n lay) (filled scale n left) (rule n (edit e) lay .says)
   unfolding answer rule filled
   rule-reversed = record {
     taken = back-taken;
@@ -111,4 +110,4 @@ edit-reversed n e t ok =
     let (size, lengths, tests) = passed c t ok in
     let sound : right scale mostWays n t ≡ true = audited c t ok in
     let same = right-true scale mostWays n t sound .2 in
-    rw ok (rw same at (rule-reversed n e (t .cost) (held-right n t size lengths sound) tests))
+    rw ok (rw same at (rule-reversed n e (t .layout) (held-right n t size lengths (brief c t ok) sound) tests))

@@ -9,16 +9,15 @@ use lib.Dec.{eqb}
 use lib.ListN.{length, getD, take, drop, length-append}
 use lib.Seq.{take-at, drop-at}
 use Rattle.routes.specs.Route.{Costs, mark, sumTo, leastTime, ways, through, quickestRoutes}
-use Rattle.routes.specs.Equations.{Within}
 use Rattle.routes.proofs.Sums.{sumTo-bound}
-use Rattle.routes.proofs.Flows.{flows}
 use Rattle.routes.proofs.Shared.{through-le}
-use Rattle.routes.proofs.Listed.{stopsIn, listed-ways, listed-stops, listed-sum, listed-own, listed-none}
-use Rattle.book.specs.Hall.{mostWays, largestCost, entry, routeBytes, routeList}
+use Rattle.routes.proofs.Listed.{stopsIn, listed-ways, listed-stops, listed-own, listed-none}
+use Rattle.book.specs.Hall.{Layout, mostWays, largestCost, entry, routeBytes, routeList, largestPassing, costsIn}
 use Rattle.book.proofs.Steps.{Held}
 use Rattle.book.proofs.Sizes.{stops}
-use Rattle.book.proofs.Tables.{valid-costs}
-use Rattle.book.proofs.Bounded.{small, ways-bound}
+use Rattle.book.proofs.Bounded.{ways-bound}
+use Rattle.routes.proofs.Joined.{spent, listed-sum-from}
+use Rattle.book.proofs.Small.{dearest, costs-within, passing-within, within, small, flow, workable}
 
 -- a byte for each stop, and one for each route
 bytes-length : (rs : List (List ℕ)) → length (routeBytes rs) ≡ length rs + stopsIn rs
@@ -43,38 +42,39 @@ bytes-told (r ∷ rs) (q ∷ qs) x y m e =
 pub routes-once : (rs qs : List (List ℕ)) (x y : List ℕ) → (length rs ∷ routeBytes rs) ++ x ≡ (length qs ∷ routeBytes qs) ++ y → rs ≡ qs
 routes-once rs qs x y e = bytes-told rs qs x y (ap (λ l. getD l 0 0) e) (ap (drop 1) e)
 
-module _ (n : ℕ) (cost : List ℕ) (h : Held n cost) (s t : ℕ) (from : s < n) (to : t < n) where
-  abbrev W : Costs
-  W = entry n cost
+module _ (n : ℕ) (lay : Layout) (h : Held n lay) (s t : ℕ) (from : s < n) (to : t < n) where
+  abbrev C : ℕ → Costs
+  C = costsIn n lay
 
-  within : Within W n largestCost
-  within = valid-costs n cost (h .valid) .most
+  abbrev passing : ℕ → ℕ
+  passing v = getD (lay .passing) v 0
 
   -- the first byte is the number of ways
-  pub routes-number : getD (routeList n cost s t) 0 0 ≡ ways W n s t
+  pub routes-number : getD (routeList n lay s t) 0 0 ≡ ways (C s) n s t
   unfolding routeList
-  routes-number = listed-ways W n s t to
+  routes-number = listed-ways (C s) n s t to
 
-  -- the length: a byte for the number, one for each route, and for each stop one for every route that passes it
-  pub routes-length : length (routeList n cost s t) ≡
-      1 + ways W n s t + sumTo n (λ v. cond (eqb (leastTime W n s v + leastTime W n v t) (leastTime W n s t)) (ways W n s v * ways W n v t) 0)
+  -- the length: a byte for the number, one for each route, and for each stop one for every route that passes it, its passing time counted
+  -- where it lies strictly between the ends
+  pub routes-length : length (routeList n lay s t) ≡
+      1 + ways (C s) n s t + sumTo n (λ v. cond (eqb (leastTime (C s) n s v + spent passing s t v + leastTime (C v) n v t) (leastTime (C s) n s t)) (ways (C s) n s v * ways (C v) n v t) 0)
   unfolding routeList
-  routes-length = omega (arith, bytes-length (quickestRoutes W n s t), listed-ways W n s t to, listed-sum W n s largestCost from within (small n cost h) t to)
+  routes-length = omega (arith, bytes-length (quickestRoutes (C s) n s t), listed-ways (C s) n s t to, listed-sum-from (entry n (lay .cost)) passing n largestCost largestPassing (costs-within (workable h)) (passing-within (workable h)) (small (workable h)) s t from to)
 
   -- at most twelve routes of at most 64 stops, each behind its length, and their number
-  pub routes-most : length (routeList n cost s t) ≤ 781
+  pub routes-most : length (routeList n lay s t) ≤ 781
   unfolding routeList
   routes-most =
-      let few : ways W n s t ≤ mostWays = ways-bound n cost h s t from to in
-      let each = sumTo-bound n mostWays {f = λ v. through W n s v t} (λ v l. omega (arith, few, through-le W n s (flows W n s largestCost from within (small n cost h)) v t l to)) in
-      omega (arith, bytes-length (quickestRoutes W n s t), listed-ways W n s t to, listed-stops W n s t to, each, stops n (h .size) .1)
+      let few : ways (C s) n s t ≤ mostWays = ways-bound n lay h s t from to in
+      let each = sumTo-bound n mostWays {f = λ v. through (C s) n s v t} (λ v l. omega (arith, few, through-le (C s) n s (flow (workable h) s from) v t l to)) in
+      omega (arith, bytes-length (quickestRoutes (C s) n s t), listed-ways (C s) n s t to, listed-stops (C s) n s t to, each, stops n (h .size) .1)
 
   -- without a route the list is one byte, the number 0
-  pub routes-none : leastTime W n s t ≡ mark → routeList n cost s t ≡ 0 ∷ []
+  pub routes-none : leastTime (C s) n s t ≡ mark → routeList n lay s t ≡ 0 ∷ []
   unfolding routeList routeBytes
-  routes-none e = rw (listed-none W n s largestCost from within (small n cost h) t to e)
+  routes-none e = rw (listed-none (C s) n s dearest from (within (workable h) s) (small (workable h)) t to e)
 
 -- from a stop to itself: one route, of one stop, the stop
-pub routes-own : (n : ℕ) (cost : List ℕ) → Held n cost → (s : ℕ) → s < n → routeList n cost s s ≡ 1 ∷ 1 ∷ s ∷ []
+pub routes-own : (n : ℕ) (lay : Layout) → Held n lay → (s : ℕ) → s < n → routeList n lay s s ≡ 1 ∷ 1 ∷ s ∷ []
 unfolding routeList routeBytes
-routes-own n cost h s from = rw (listed-own (entry n cost) n s largestCost from (within n cost h s s from from) (small n cost h))
+routes-own n lay h s from = rw (listed-own (costsIn n lay s) n s dearest from (within (workable h) s) (small (workable h)))

@@ -9,22 +9,22 @@ use lib.ListN.{getD}
 use borrow.Author.Tests.{eq-eqb, lt-ltb}
 use Rattle.routes.specs.Route.{sumTo, has}
 use Rattle.routes.proofs.Sums.{sumTo-cong}
-use Rattle.book.specs.Hall.{Tables, mostStops, scale, oldMostWays, oldScale, upTo, entry, filled, sized, right, touched}
-use Rattle.book.specs.Call.{Call, emptyHall, moveOver, workOut, edit, editList, run, touchedBy, need, rule, Answer, refusal, after, answer, Done, reversal}
-use Rattle.book.specs.Book.{Book, tablesOf, bookRefusal, bookAfter, bookAnswers, Step, callsOf, lent, kept, Sequence, Start, atEmptyHall, atMovedHall, startAsk, firstLinks, firstBook, Started, changed, SetFacts, EditFacts, Demand3}
+use Rattle.book.specs.Hall.{Layout, Tables, mostStops, scale, oldMostWays, oldScale, upTo, entry, filled, sized, right, touched, laid, noPassing, linksAlone, validPassing}
+use Rattle.book.specs.Call.{Call, emptyHall, moveOver, workOut, edit, editList, run, touchedBy, need, rule, Answer, refusal, after, answer, Done, reversal, withLayout}
+use Rattle.book.specs.Book.{Book, tablesOf, bookRefusal, bookAfter, bookAnswers, Step, callsOf, lent, kept, Sequence, Start, atEmptyHall, atMovedHall, startAsk, firstLayout, firstBook, Started, changed, SetFacts, EditFacts, Demand3}
 use Rattle.book.specs.declared.Edit.{Edit}
 use Rattle.book.specs.declared.Refusal.the-variants.{Accepted, BadTables}
-use Rattle.book.proofs.Filled.{sized-filled}
+use Rattle.book.proofs.Filled.{sized-filled, sized-passing}
 use Rattle.book.proofs.Answers.{answer-refusal, book-refusal, done-refusal}
 use Rattle.book.proofs.Refused.{kept-left}
-use Rattle.book.proofs.Steps.{Held, held-worked, held-after, accepted-held, accepted-filled, answer-made, kept-made, never-bad}
+use Rattle.book.proofs.Steps.{Held, held-worked, held-after, accepted-filled, answer-made, kept-made, never-bad, lent-held}
 use Rattle.book.proofs.Moves.{moving, move-leaves, old-moved, move-book, told-book, move-three}
 use Rattle.book.proofs.Edits.{edited-book}
 use Rattle.book.proofs.Lists.{listed-book}
 
 -- a sequence from the tables of a book leaves those of the book at its end
-run-made : (steps : List Step) (b : Book) → Held (b .stops) (b .links) → Sequence (tablesOf b) steps →
-    (run kept steps (tablesOf b) ≡ filled scale (b .stops) (run bookAfter (callsOf steps) b .links)) × Held (b .stops) (run bookAfter (callsOf steps) b .links)
+run-made : (steps : List Step) (b : Book) → Held (b .stops) (b .layout) → Sequence (tablesOf b) steps →
+    (run kept steps (tablesOf b) ≡ filled scale (b .stops) (run bookAfter (callsOf steps) b .layout)) × Held (b .stops) (run bookAfter (callsOf steps) b .layout)
 unfolding run Sequence bookAfter
 run-made [] b h made = (refl, h)
 run-made (s ∷ rest) b h (d, made) =
@@ -33,7 +33,7 @@ run-made (s ∷ rest) b h (d, made) =
     (rw same left, held)
 
 -- and its answers are the book's
-answers-made : (steps : List Step) (b : Book) → Held (b .stops) (b .links) → Sequence (tablesOf b) steps →
+answers-made : (steps : List Step) (b : Book) → Held (b .stops) (b .layout) → Sequence (tablesOf b) steps →
     map (λ s. s .answer) steps ≡ bookAnswers (callsOf steps) b
 unfolding bookAnswers Sequence
 answers-made [] b h made = refl
@@ -57,7 +57,7 @@ facts-made P s b own d ok facts =
     rw (same .left, same .answered) (facts (sym (done-refusal (s .call) (tablesOf b) same) ∙ ok))
 
 -- an accepted edit on the tables of a book, and an accepted list, have the facts that demand 3 wants
-edited-made : (s : Step) (b : Book) (e : Edit) → Held (b .stops) (b .links) → s .call .ask ≡ edit e →
+edited-made : (s : Step) (b : Book) (e : Edit) → Held (b .stops) (b .layout) → s .call .ask ≡ edit e →
     Done (s .call) (lent (s .call) (tablesOf b)) (s .left) (s .answer) → s .answer .refusal ≡ Accepted →
     EditFacts (s .call .n) e (tablesOf b) (s .left) (s .answer)
 unfolding rule
@@ -65,58 +65,62 @@ edited-made s b e h asked d ok =
     facts-made (EditFacts (s .call .n) e (tablesOf b)) s b (ap (λ ask. lent (record { n = s .call .n; ask = ask }) (tablesOf b)) asked) d ok
     (edited-book (s .call) b e h asked)
 
-listed-made : (s : Step) (b : Book) (edits : List Edit) → Held (b .stops) (b .links) → s .call .ask ≡ editList edits →
+listed-made : (s : Step) (b : Book) (edits : List Edit) → Held (b .stops) (b .layout) → s .call .ask ≡ editList edits →
     Done (s .call) (lent (s .call) (tablesOf b)) (s .left) (s .answer) → s .answer .refusal ≡ Accepted →
-    SetFacts (s .call .n) (touchedBy (s .call .n) edits (tablesOf b .cost)) (tablesOf b) (s .left) (s .answer)
+    SetFacts (s .call .n) (touchedBy (s .call .n) edits (tablesOf b .layout)) (tablesOf b) (s .left) (s .answer)
 unfolding rule filled
 listed-made s b edits h asked d ok =
-    facts-made (SetFacts (s .call .n) (touchedBy (s .call .n) edits (b .links)) (tablesOf b)) s b
+    facts-made (SetFacts (s .call .n) (touchedBy (s .call .n) edits (b .layout)) (tablesOf b)) s b
     (ap (λ ask. lent (record { n = s .call .n; ask = ask }) (tablesOf b)) asked) d ok (listed-book (s .call) b edits h asked)
 
--- the costs that a call left from which a sequence starts are those of the book at first
-links-first : (from : Start) (N : ℕ) (found start : Tables) →
-    let leaves : List ℕ = rule N (startAsk from) (found .cost) .leaves in
-    start ≡ filled scale N leaves → leaves ≡ firstLinks from N start
+-- the layout of the tables that such a call left is that of the book at first
+layout-first : (from : Start) (N : ℕ) (found start : Tables) →
+    let c : Call = record { n = N; ask = startAsk from } in
+    let leaves : Layout = rule N (startAsk from) (lent c found .layout) .leaves in
+    start ≡ filled scale N leaves → leaves ≡ firstLayout from N start
 unfolding rule filled
-links-first atEmptyHall N found start e = refl
-links-first atMovedHall N found start e = sym (ap (λ t. t .cost) e)
+layout-first (atEmptyHall passing) N found start e = refl
+layout-first atMovedHall N found start e = ap (λ t. laid (t .layout .cost) (noPassing N)) (sym e)
 
 module _ (from : Start) (N : ℕ) (start : Tables) (begun : Started from N start) where
   abbrev opening : Call
   opening = record { n = N; ask = startAsk from }
 
-  opened : refusal opening (begun .found) ≡ Accepted
-  opened = sym (done-refusal opening (begun .found) (begun .done)) ∙ begun .taken
+  abbrev given : Tables
+  given = lent opening (begun .found)
 
-  start-filled : start ≡ filled scale N (rule N (startAsk from) (begun .found .cost) .leaves)
-  start-filled = begun .done .left ∙ accepted-filled opening (begun .found) opened
+  opened : refusal opening given ≡ Accepted
+  opened = sym (done-refusal opening given (begun .done)) ∙ begun .taken
+
+  start-filled : start ≡ filled scale N (rule N (startAsk from) (given .layout) .leaves)
+  start-filled = begun .done .left ∙ accepted-filled opening given opened
 
   -- so the tables are that book's
-  held-first : Held N (firstLinks from N start)
-  held-first = subst (Held N) (links-first from N (begun .found) start start-filled) (accepted-held opening (begun .found) opened)
+  held-first : Held N (firstLayout from N start)
+  held-first = subst (Held N) (layout-first from N (begun .found) start start-filled) (lent-held opening (begun .found) opened)
 
   start-book : start ≡ tablesOf (firstBook from N start)
-  start-book = start-filled ∙ ap (filled scale N) (links-first from N (begun .found) start start-filled)
+  start-book = start-filled ∙ ap (filled scale N) (layout-first from N (begun .found) start start-filled)
 
-  -- after a sequence the five are the tables of a book, whose links are the sequence's
+  -- after a sequence the tables are those of a book, whose layout is the sequence's
   at-end : (steps : List Step) → Sequence start steps →
       let b : Book = run bookAfter (callsOf steps) (firstBook from N start) in
-      (run kept steps start ≡ filled scale N (b .links)) × Held N (b .links)
+      (run kept steps start ≡ filled scale N (b .layout)) × Held N (b .layout)
   at-end steps made =
       let (left, held) = run-made steps (firstBook from N start) held-first (subst (λ t. Sequence t steps) start-book made) in
       (ap (run kept steps) start-book ∙ left, held)
 
   -- what holds of the tables of every book holds of them
-  pub of-books : (P : Tables → Type 0) (steps : List Step) → Sequence start steps → ((links : List ℕ) → Held N links → P (filled scale N links)) → P (run kept steps start)
+  pub of-books : (P : Tables → Type 0) (steps : List Step) → Sequence start steps → ((lay : Layout) → Held N lay → P (filled scale N lay)) → P (run kept steps start)
   of-books P steps made h = let (same, held) = at-end steps made in subst⁻¹ P same (h _ held)
 
   -- a call in a sequence was made on the tables of a book
   at-step : (P : Tables → Type 0) (before rest : List Step) (s : Step) → Sequence start (before ++ s ∷ rest) →
-      ((b : Book) → b .stops ≡ N → Held (b .stops) (b .links) → Done (s .call) (lent (s .call) (tablesOf b)) (s .left) (s .answer) → P (tablesOf b)) →
+      ((b : Book) → b .stops ≡ N → Held (b .stops) (b .layout) → Done (s .call) (lent (s .call) (tablesOf b)) (s .left) (s .answer) → P (tablesOf b)) →
       P (run kept before start)
   at-step P before rest s made facts =
       let (part, d, more) = front before s rest start made in
-      of-books (λ t. Done (s .call) (lent (s .call) t) (s .left) (s .answer) → P t) before part (λ links h d. facts (record { stops = N; links = links }) refl h d) d
+      of-books (λ t. Done (s .call) (lent (s .call) t) (s .left) (s .answer) → P t) before part (λ lay h d. facts (record { stops = N; layout = lay }) refl h d) d
 
 -- demand 3
 pub demand3 : Demand3
@@ -128,32 +132,36 @@ demand3 from N start steps begun made = (
       at-step from N start begun (λ t. EditFacts (s .call .n) e t (s .left) (s .answer)) before rest s (subst (Sequence start) split made)
       (λ b N-stops h d. edited-made s b e h asked d ok),
   λ before rest s edits split asked ok.
-      at-step from N start begun (λ t. SetFacts (s .call .n) (touchedBy (s .call .n) edits (t .cost)) t (s .left) (s .answer)) before rest s (subst (Sequence start) split made)
+      at-step from N start begun (λ t. SetFacts (s .call .n) (touchedBy (s .call .n) edits (t .layout)) t (s .left) (s .answer)) before rest s (subst (Sequence start) split made)
       (λ b N-stops h d. listed-made s b edits h asked d ok),
 )
 
 -- what an accepted empty hall or moving call leaves are such tables to start from
 pub sequence-from : (from : Start) (N : ℕ) (found : Tables) → let c : Call = record { n = N; ask = startAsk from } in
-    refusal c found ≡ Accepted → Started from N (after c found)
+    refusal c (lent c found) ≡ Accepted → Started from N (after c (lent c found))
 sequence-from from N found ok =
     let c : Call = record { n = N; ask = startAsk from } in
-    record { found = found; said = answer c found; done = record { left = refl; answered = refl }; taken = answer-refusal c found ∙ ok }
+    record { found = found; said = answer c (lent c found); done = record { left = refl; answered = refl }; taken = answer-refusal c (lent c found) ∙ ok }
 
--- of a moving call the book has the links of the tables that it found
-pub moved-starts : (N : ℕ) (found : Tables) → refusal (moving N) found ≡ Accepted →
-    Started atMovedHall N (after (moving N) found) × (firstLinks atMovedHall N (after (moving N) found) ≡ found .cost)
-unfolding filled
-moved-starts N found ok = (sequence-from atMovedHall N found ok, ap (λ t. t .cost) (move-leaves N found ok))
+-- of a moving call the book has the links of the tables that it found, and every passing time 0
+pub moved-starts : (N : ℕ) (found : Tables) → let given : Tables = lent (moving N) found in
+    refusal (moving N) given ≡ Accepted →
+    Started atMovedHall N (after (moving N) given) × (firstLayout atMovedHall N (after (moving N) given) ≡ linksAlone N (found .layout))
+unfolding filled rule
+moved-starts N found ok =
+    (sequence-from atMovedHall N found ok, λ i. laid (move-leaves N (lent (moving N) found) refl ok i .layout .cost) (noPassing N))
 
--- and the tables of every hall are such tables: those of its costs by the old numbers, moved
-pub hall-starts : (N : ℕ) (cost : List ℕ) → Held N cost → Started atMovedHall N (filled scale N cost)
-hall-starts N cost h = let (ok, left) = old-moved N cost h in subst (Started atMovedHall N) left (moved-starts N (filled oldScale N cost) ok .0)
+-- and the tables of every hall without passing times are such tables: those of its links by the old numbers, moved
+pub hall-starts : (N : ℕ) (lay : Layout) → Held N (linksAlone N lay) → Started atMovedHall N (filled scale N (linksAlone N lay))
+unfolding filled rule
+hall-starts N lay h = let (ok, left) = old-moved N lay h in subst (Started atMovedHall N) left (moved-starts N (filled oldScale N (linksAlone N lay)) ok .0)
 
--- every N from 1 to 64 has an empty hall to start from, and every list of calls is such a sequence
-pub sequence-starts : (N : ℕ) (found : Tables) → upTo mostStops N ≡ true → sized N found ≡ true →
-    Started atEmptyHall N (after (record { n = N; ask = emptyHall }) found)
+-- every N from 1 to 64, with valid passing times, has an empty hall to start from, and every list of calls is such a sequence
+pub sequence-starts : (N : ℕ) (passing : List ℕ) (found : Tables) → let c : Call = record { n = N; ask = emptyHall passing } in
+    upTo mostStops N ≡ true → sized N (lent c found) ≡ true → validPassing N passing ≡ true → Started (atEmptyHall passing) N (after c (lent c found))
 unfolding refusal rule
-sequence-starts N found size lengths = sequence-from atEmptyHall N found (rw (size, lengths))
+sequence-starts N passing found size lengths passable =
+    sequence-from (atEmptyHall passing) N found (rw (size, sized-passing N (withLayout (laid (found .layout .cost) passing) found) lengths, eq-eqb N N refl, lengths, passable))
 
 abbrev pub stepOf : Call → Tables → Step
 stepOf c t = record { call = c; left = after c (lent c t); answer = answer c (lent c t) }
@@ -170,20 +178,20 @@ sequence-runs (c ∷ calls) t =
     ((record { left = refl; answered = refl }, made), ap (λ l. c ∷ l) same)
 
 module _ (from : Start) (N : ℕ) (start : Tables) (begun : Started from N start) where
-  -- sequences that end with the same links end with the same five tables, wherever they started
+  -- sequences that end with the same links and passing times end with the same tables, wherever they started
   pub same-links : (from′ : Start) (start′ : Tables) → Started from′ N start′ → (steps steps′ : List Step) → Sequence start steps → Sequence start′ steps′ →
-      run bookAfter (callsOf steps) (firstBook from N start) .links ≡ run bookAfter (callsOf steps′) (firstBook from′ N start′) .links →
+      run bookAfter (callsOf steps) (firstBook from N start) .layout ≡ run bookAfter (callsOf steps′) (firstBook from′ N start′) .layout →
       run kept steps start ≡ run kept steps′ start′
   unfolding Demand3
   same-links from′ start′ begun′ steps steps′ made made′ same =
       demand3 from N start steps begun made .0 ∙ ap (filled scale N) same ∙ sym (demand3 from′ N start′ steps′ begun′ made′ .0)
 
-  -- sequences of the same calls from the same links answer the same, whatever their first tables held before
+  -- sequences of the same calls from the same links and passing times answer the same, whatever their first tables held before
   pub same-answers : (from′ : Start) (start′ : Tables) → Started from′ N start′ → (steps steps′ : List Step) → Sequence start steps → Sequence start′ steps′ →
-      firstLinks from N start ≡ firstLinks from′ N start′ → callsOf steps ≡ callsOf steps′ → map (λ s. s .answer) steps ≡ map (λ s. s .answer) steps′
+      firstLayout from N start ≡ firstLayout from′ N start′ → callsOf steps ≡ callsOf steps′ → map (λ s. s .answer) steps ≡ map (λ s. s .answer) steps′
   unfolding Demand3
   same-answers from′ start′ begun′ steps steps′ made made′ first same =
-      demand3 from N start steps begun made .1 ∙ ap₂ (λ calls links. bookAnswers calls (record { stops = N; links = links })) same first ∙
+      demand3 from N start steps begun made .1 ∙ ap₂ (λ calls lay. bookAnswers calls (record { stops = N; layout = lay })) same first ∙
       sym (demand3 from′ N start′ steps′ begun′ made′ .1)
 
   -- an accepted edit of a sequence in the words of its routes: it changes exactly the rows of the sources that it touches, answers how
@@ -192,7 +200,7 @@ module _ (from : Start) (N : ℕ) (start : Tables) (begun : Started from N start
       let n : ℕ = s .call .n in
       let t : Tables = run kept before start in
       let t′ : Tables = s .left in
-      let touches : ℕ → Bool = touched n (t .cost) (t′ .cost) (e .u) (e .v) in
+      let touches : ℕ → Bool = touched n (t .layout) (t′ .layout) (e .u) (e .v) in
       ((x : ℕ) → x < n → changed n t t′ x ≡ touches x) × (s .answer .rows ≡ sumTo 64 (λ x. cond (ltb x n && touches x) 1 0)) ×
       ((x : ℕ) → x < n →
       getD (t′ .score) x 0 + sumTo n (λ s. cond (touches s) (entry n (t .share) s x) 0) ≡ getD (t .score) x 0 + sumTo n (λ s. cond (touches s) (entry n (t′ .share) s x) 0))
@@ -201,7 +209,7 @@ module _ (from : Start) (N : ℕ) (start : Tables) (begun : Started from N start
       let f = demand3 from N start (before ++ s ∷ rest) begun made .2 before rest s e refl asked ok in
       let t : Tables = run kept before start in
       let n : ℕ = s .call .n in
-      let touches : ℕ → Bool = touched n (t .cost) (s .left .cost) (e .u) (e .v) in
+      let touches : ℕ → Bool = touched n (t .layout) (s .left .layout) (e .u) (e .v) in
       let member : (x : ℕ) → x < n → has (s .answer .touched) x ≡ touches x = λ x l. f .set .names x ∙ rw (lt-ltb x n l) in
       let over : (u : Tables) (x : ℕ) → sumTo n (λ s′. cond (has (s .answer .touched) s′) (entry n (u .share) s′ x) 0) ≡ sumTo n (λ s′. cond (touches s′) (entry n (u .share) s′ x) 0) =
       λ u x. sumTo-cong n (λ i l. rw (member i l)) in
@@ -234,8 +242,11 @@ module _ (from : Start) (N : ℕ) (start : Tables) (begun : Started from N start
       at-step from N start begun (λ t. s .answer .refusal ≢ BadTables) made rest s all
       (λ b N-stops h d bad. never-bad (s .call) b another (sym (ap (λ a. a .refusal) (answer-made s b h d) ∙ book-refusal (s .call) b) ∙ bad))
 
-  -- a moving call of a sequence leaves the five tables as they are; with N it says 3 exactly where they are not also those of the old scale
-  -- and limit, as with any share above 0
+  -- a moving call of a sequence leaves the tables as they are; with N it says 3 exactly where they are not also those of the old scale
+  -- and limit for passing times of 0, as with any share above 0
+  abbrev alike : ℕ → Tables → Bool
+  alike n t = right oldScale oldMostWays n (withLayout (linksAlone n (t .layout)) t)
+
   module _ (made : List Step) (s : Step) (rest : List Step) (all : Sequence start (made ++ s ∷ rest)) (asked : s .call .ask ≡ moveOver) where
     pub moved-kept : kept s (run kept made start) ≡ run kept made start
     moved-kept =
@@ -243,31 +254,32 @@ module _ (from : Start) (N : ℕ) (start : Tables) (begun : Started from N start
         kept-made s b h d ∙ ap tablesOf (ap (λ ask. bookAfter (record { n = s .call .n; ask = ask }) b) asked ∙ move-book (s .call .n) b))
 
     module _ (size : s .call .n ≡ N) where
-      said-book : (b : Book) → b .stops ≡ N → Held (b .stops) (b .links) → Done (s .call) (lent (s .call) (tablesOf b)) (s .left) (s .answer) →
+      said-book : (b : Book) → b .stops ≡ N → Held (b .stops) (b .layout) → Done (s .call) (lent (s .call) (tablesOf b)) (s .left) (s .answer) →
           s .answer .refusal ≡ bookRefusal (moving (b .stops)) b
       said-book b N-stops h d =
           let call : s .call ≡ moving (b .stops) = λ i. record { n = (size ∙ sym N-stops) i; ask = asked i } in
           ap (λ a. a .refusal) (answer-made s b h d) ∙ book-refusal (s .call) b ∙ ap (λ c. bookRefusal c b) call
 
-      pub moved-told : s .answer .refusal ≡ need (right oldScale oldMostWays N (run kept made start)) BadTables Accepted
+      pub moved-told : s .answer .refusal ≡ need (alike N (run kept made start)) BadTables Accepted
+      unfolding filled
       moved-told =
-          at-step from N start begun (λ t. s .answer .refusal ≡ need (right oldScale oldMostWays N t) BadTables Accepted) made rest s all (λ b N-stops h d.
-          said-book b N-stops h d ∙ told-book b h ∙ ap (λ m. need (right oldScale oldMostWays m (tablesOf b)) BadTables Accepted) N-stops)
+          at-step from N start begun (λ t. s .answer .refusal ≡ need (alike N t) BadTables Accepted) made rest s all (λ b N-stops h d.
+          said-book b N-stops h d ∙ told-book b h ∙ ap (λ m. need (alike m (tablesOf b)) BadTables Accepted) N-stops)
 
       pub moved-three : (x v : ℕ) → x < N → v < N → 0 < entry N (run kept made start .share) x v → s .answer .refusal ≡ BadTables
       moved-three x v k l =
           at-step from N start begun (λ t. 0 < entry N (t .share) x v → s .answer .refusal ≡ BadTables) made rest s all (λ b N-stops h d some.
           said-book b N-stops h d ∙ move-three b h x v (rw N-stops k) (rw N-stops l) (subst (λ m. 0 < entry m (tablesOf b .share) x v) (sym N-stops) some))
 
-  -- a work out on the cost table that a sequence leaves is accepted and changes nothing
+  -- a work out on the layout that a sequence leaves is accepted and changes nothing
   pub worked-out : (steps : List Step) → Sequence start steps →
       let t : Tables = run kept steps start in
-      let c : Call = record { n = N; ask = workOut (t .cost) } in
+      let c : Call = record { n = N; ask = workOut (t .layout) } in
       (refusal c t ≡ Accepted) × (after c t ≡ t)
   unfolding after filled rule
   worked-out steps made =
-      let worked : Tables → Call = λ t. record { n = N; ask = workOut (t .cost) } in
+      let worked : Tables → Call = λ t. record { n = N; ask = workOut (t .layout) } in
       of-books from N start begun (λ t. (refusal (worked t) t ≡ Accepted) × (after (worked t) t ≡ t)) steps made
-      (λ links h.
-      let taken = held-worked N links (filled scale N links) h (sized-filled scale N N links (h .square) ∙ eq-eqb N N refl) in
+      (λ lay h.
+      let taken = held-worked N lay (filled scale N lay) h (sized-filled scale N N lay (h .square) (h .long) ∙ eq-eqb N N refl) in
       (taken, rw taken))

@@ -4,7 +4,6 @@ use Prim.Native.Nat.{ℕ, zero, suc, _+_, _<_, _≤_}
 use mathlib.Core.Path.{_≡_, refl, sym, _∙_, ap}
 use mathlib.Core.Logic.{⊎-elim}
 use mathlib.Core.Bool.{Bool, true, false, cond, not, _&&_, and-eq-true-iff}
-use mathlib.Core.List.{List}
 use native.Mathlib.Nat.{eq-or-lt-of-le}
 use native.Mathlib.Omega.{arith}
 use lib.Dec.{eqb}
@@ -13,7 +12,7 @@ use Rattle.routes.specs.Route.{sumTo, setOf, has, share, score}
 use Rattle.routes.proofs.Sums.{sumTo-cong, sumTo-split, all-true, all-of}
 use Rattle.routes.proofs.Bits.{has-setOf}
 use Rattle.routes.proofs.Rows.{getD-listTo}
-use Rattle.book.specs.Hall.{Tables, mostStops, scale, table, entry, filled}
+use Rattle.book.specs.Hall.{Layout, Tables, mostStops, scale, table, entry, costsIn, filled}
 use Rattle.book.specs.Call.{names}
 use Rattle.book.specs.Book.{SetFacts, changed}
 use Rattle.book.proofs.Tables.{entry-table}
@@ -84,25 +83,25 @@ module _ (n : ℕ) (sources : ℕ → Bool) where
       sumTo n (λ s. cond (has (setOf n sources) s) (entry n (table n f) s x) 0) ≡ sumTo n (λ s. cond (sources s) (f s x) 0)
   over-members f x hx = sumTo-cong n (λ s hs. rw (member s hs, entry-table n f s x hs hx))
 
-  -- from the costs of one hall to those of another
-  module _ (cost cost′ : List ℕ) (before : ℕ) (few : n ≤ mostStops)
-      (rows-stay : (s : ℕ) → s < n → sources s ≡ false → changed n (filled scale n cost) (filled scale n cost′) s ≡ false) where
-    abbrev of : List ℕ → ℕ → ℕ → ℕ
-    of costs s = share (entry n costs) n s scale
+  -- from the layout of one hall to that of another
+  module _ (lay lay′ : Layout) (before : ℕ) (few : n ≤ mostStops)
+      (rows-stay : (s : ℕ) → s < n → sources s ≡ false → changed n (filled scale n lay) (filled scale n lay′) s ≡ false) where
+    abbrev of : Layout → ℕ → ℕ → ℕ
+    of lay s = share (costsIn n lay s) n s scale
 
-    share-stays : (s x : ℕ) → s < n → x < n → sources s ≡ false → of cost s x ≡ of cost′ s x
+    share-stays : (s x : ℕ) → s < n → x < n → sources s ≡ false → of lay s x ≡ of lay′ s x
     unfolding filled
     share-stays s x hs hx away =
-        sym (entry-table n (of cost) s x hs hx) ∙
-        row-same n (filled scale n cost) (filled scale n cost′) s (rows-stay s hs away) .share x hx ∙ entry-table n (of cost′) s x hs hx
+        sym (entry-table n (of lay) s x hs hx) ∙
+        row-same n (filled scale n lay) (filled scale n lay′) s (rows-stay s hs away) .share x hx ∙ entry-table n (of lay′) s x hs hx
 
-    pub set-facts : SetFacts n sources (filled scale n cost) (filled scale n cost′) (names n sources before)
+    pub set-facts : SetFacts n sources (filled scale n lay) (filled scale n lay′) (names n sources before)
     unfolding filled score
     set-facts = record {
       names = λ s. has-setOf n sources s;
       counts = sumTo-cong n (λ s hs. rw (member s hs)) ∙ sym (sumTo-beyond 64 n few (λ s hs. rw (outside s hs)));
       stays = λ s hs away. rows-stay s hs (sym (member s hs) ∙ away);
       moves = λ x hx.
-          rw (getD-listTo n (score (entry n cost) n scale) 0 x hx, getD-listTo n (score (entry n cost′) n scale) 0 x hx, over-members (of cost) x hx, over-members (of cost′) x hx)
-          (sumTo-move n sources (λ s. of cost s x) (λ s. of cost′ s x) (λ s hs away. share-stays s x hs hx away));
+          rw (getD-listTo n (score (costsIn n lay) n scale) 0 x hx, getD-listTo n (score (costsIn n lay′) n scale) 0 x hx, over-members (of lay) x hx, over-members (of lay′) x hx)
+          (sumTo-move n sources (λ s. of lay s x) (λ s. of lay′ s x) (λ s hs away. share-stays s x hs hx away));
     }

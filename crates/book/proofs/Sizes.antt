@@ -5,7 +5,7 @@ use mathlib.Core.Bool.{Bool, true, and-eq-true-iff}
 use mathlib.Core.List.{List}
 use lib.Dec.{eqb, leb}
 use lib.ListN.{length}
-use borrow.Author.Tests.{eqb-true, leb-true}
+use borrow.Author.Tests.{eqb-true, eq-eqb, leb-true}
 use Rattle.book.specs.Hall.{Tables, mostStops, upTo, sized}
 
 -- a number of stops
@@ -14,7 +14,8 @@ stops n e = let (low, high) = and-eq-true-iff (leb 1 n) (leb n mostStops) .0 e i
 
 -- the lengths of tables that have them
 pub record Lengths (n : ℕ) (t : Tables) : Type 0 where
-  pub costs : length (t .cost) ≡ n * n
+  pub costs : length (t .layout .cost) ≡ n * n
+  pub passings : length (t .layout .passing) ≡ n
   pub times : length (t .time) ≡ n * n
   pub counts : length (t .ways) ≡ n * n
   pub shares : length (t .share) ≡ n * n
@@ -24,8 +25,13 @@ pub lengths : (n : ℕ) (t : Tables) → sized n t ≡ true → Lengths n t
 unfolding sized
 lengths n t e =
     let square : List ℕ → Bool = λ l. eqb (length l) (n * n) in
-    let (a, e₁) = and-eq-true-iff (square (t .cost)) _ .0 e in
+    let (a, e₀) = and-eq-true-iff (square (t .layout .cost)) _ .0 e in
+    let (p, e₁) = and-eq-true-iff (eqb (length (t .layout .passing)) n) _ .0 e₀ in
     let (b, e₂) = and-eq-true-iff (square (t .time)) _ .0 e₁ in
     let (c, e₃) = and-eq-true-iff (square (t .ways)) _ .0 e₂ in
     let (d, f) = and-eq-true-iff (square (t .share)) (eqb (length (t .score)) n) .0 e₃ in
-    record { costs = eqb-true _ _ a; times = eqb-true _ _ b; counts = eqb-true _ _ c; shares = eqb-true _ _ d; scores = eqb-true _ _ f }
+    record { costs = eqb-true _ _ a; passings = eqb-true _ _ p; times = eqb-true _ _ b; counts = eqb-true _ _ c; shares = eqb-true _ _ d; scores = eqb-true _ _ f }
+
+-- passing times that a call is lent and brings have their length where the lent tables have theirs
+pub passing-fits : (n : ℕ) (t : Tables) → sized n t ≡ true → eqb (length (t .layout .passing)) n ≡ true
+passing-fits n t e = eq-eqb _ _ (lengths n t e .passings)

@@ -1,4 +1,4 @@
--- Laws of the square tables of a hall: their length, their entries, one entry set, and valid costs. Assumes nothing.
+-- Laws of the square tables of a hall: their length, their entries, one entry set, and valid costs and passing times. Assumes nothing.
 use Prim.Native.Nat.{ℕ, zero, suc, _+_, _*_, _/_, _%_, _<_, _≤_}
 use mathlib.Core.Path.{_≡_, refl, sym, _∙_, ap, ap₂}
 use mathlib.Core.Logic.{_≢_}
@@ -7,14 +7,14 @@ use mathlib.Core.List.{List, _++_}
 use native.Mathlib.Nat.{zero-mul, suc-mul, not-suc-le-zero, mod-lt, div-add-mod', div-lt-iff-lt-mul}
 use native.Mathlib.Omega.{arith}
 use lib.Arith.{digits-lt, digits-div, digits-mod}
-use lib.Dec.{eqb}
+use lib.Dec.{eqb, leb}
 use lib.ListN.{length, getD, set, replicate, length-append, length-set, length-replicate, getD-replicate, List·getD-append}
 use lib.Seq.{ext-getD, getD-append-add, getD-set-same, getD-set-other}
 use borrow.Author.Tests.{leb-true, le-leb, eqb-true, eqb-false, eq-eqb}
 use Rattle.routes.specs.Route.{Costs, joinTo, listTo}
 use Rattle.routes.proofs.Sums.{below-suc, cond-true, all-true, all-of}
 use Rattle.routes.proofs.Rows.{length-listTo, getD-listTo}
-use Rattle.book.specs.Hall.{largestCost, table, entry, validCosts}
+use Rattle.book.specs.Hall.{largestCost, largestPassing, table, entry, validCosts, validPassing}
 
 module _ {A : Type 0} (n : ℕ) (g : ℕ → List A) (wide : (s : ℕ) → length (g s) ≡ n) where
   -- m rows of n entries have m times n
@@ -152,3 +152,12 @@ valid-set n cost u v x e a b apart fits h =
     own s true f true g k = absurd (apart (eqb-true u s f ∙ sym (eqb-true v s g)))
     own s true f false g k = old .own s k
     own s false f q g k = old .own s k
+
+-- validPassing tests exactly that no passing time is too long
+pub valid-passing : (n : ℕ) (passing : List ℕ) → validPassing n passing ≡ true → (v : ℕ) → v < n → getD passing v 0 ≤ largestPassing
+unfolding validPassing
+valid-passing n passing h v l = leb-true (getD passing v 0) largestPassing (all-true n (λ v. leb (getD passing v 0) largestPassing) h v l)
+
+pub passing-valid : (n : ℕ) (passing : List ℕ) → ((v : ℕ) → v < n → getD passing v 0 ≤ largestPassing) → validPassing n passing ≡ true
+unfolding validPassing
+passing-valid n passing h = all-of n (λ v. leb (getD passing v 0) largestPassing) (λ v l. le-leb (getD passing v 0) largestPassing (h v l))

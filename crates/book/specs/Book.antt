@@ -1,42 +1,38 @@
 -- The book of document 01, sequences of calls, and demand 3 as a type. Assumes nothing.
-use Prim.Native.Nat.{ℕ, _+_, _*_, _<_}
+use Prim.Native.Nat.{ℕ, _+_, _<_}
 use mathlib.Core.Path.{_≡_}
 use mathlib.Core.Bool.{Bool, false, cond, not, _&&_}
 use mathlib.Core.List.{List, [], _∷_, _++_, map}
 use lib.Dec.{eqb, ltb}
-use lib.ListN.{getD, replicate}
+use lib.ListN.{getD}
 use Rattle.routes.specs.Route.{sumTo, allTo, has}
-use Rattle.book.specs.Hall.{Tables, scale, entry, filled, touched}
-use Rattle.book.specs.Call.{Ask, emptyHall, moveOver, edit, editList, Call, Rule, rule, Answer, accepted, run, touchedBy, chain, reply, refusal, after, answer, Done, reversal}
+use Rattle.book.specs.Hall.{Layout, laid, Tables, scale, entry, filled, validPassing, noPassing, noLinks, touched}
+use Rattle.book.specs.Call.{Ask, emptyHall, moveOver, edit, editList, Call, Rule, rule, withLayout, Answer, accepted, run, touchedBy, chain, reply, refusal, after, answer, Done, reversal}
 use Rattle.book.specs.declared.Edit.{Edit}
 use Rattle.book.specs.declared.Refusal.{Refusal}
 use Rattle.book.specs.declared.Refusal.the-variants.{Accepted}
 
--- the book (abstract state): N and the present links, as their cost table; it reads calls alone
+-- the book (abstract state): N, and the present links and passing times; it reads calls alone
 pub record Book : Type 0 where
   pub stops : ℕ
-  pub links : List ℕ
+  pub layout : Layout
 
--- the tables that the book gives: those of its links
+-- the tables that the book gives: those of its layout
 abbrev pub tablesOf : Book → Tables
-tablesOf b = filled scale (b .stops) (b .links)
+tablesOf b = filled scale (b .stops) (b .layout)
 
--- a call is refused by the same tests: 2 if its n is not N or what it brings does not fit, 3 by the moving call alone, where the
--- tables that the book gives are not also those of the old scale and limit
+-- a call is refused by the same tests: 2 if its n is not N or what it brings does not fit, 13 by the passing times that it is lent, 3 by the
+-- moving call alone, where the tables that the book gives are not also those of the old scale and limit with links alone
 unfoldable pub bookRefusal : Call → Book → Refusal
 bookRefusal c b =
-    let r : Rule = rule (c .n) (c .ask) (b .links) in
-    chain (c .n) (r .fits && eqb (c .n) (b .stops)) (r .soundInBook (tablesOf b)) (r .tests)
+    let r : Rule = rule (c .n) (c .ask) (b .layout) in
+    chain (c .n) (r .fits && eqb (c .n) (b .stops)) (validPassing (c .n) (r .lent .passing)) (r .soundInBook (tablesOf b)) (r .tests)
 
 unfoldable pub bookAfter : Call → Book → Book
-bookAfter c b = record { stops = b .stops; links = cond (accepted (bookRefusal c b)) (rule (c .n) (c .ask) (b .links) .leaves) (b .links) }
+bookAfter c b = record { stops = b .stops; layout = cond (accepted (bookRefusal c b)) (rule (c .n) (c .ask) (b .layout) .leaves) (b .layout) }
 
 unfoldable pub bookAnswer : Call → Book → Answer
-bookAnswer c b = reply (bookRefusal c b) (rule (c .n) (c .ask) (b .links))
-
--- a book without links
-abbrev pub noLinks : ℕ → Book
-noLinks N = record { stops = N; links = replicate (N * N) 0 }
+bookAnswer c b = reply (bookRefusal c b) (rule (c .n) (c .ask) (b .layout))
 
 -- what the book says to each of some calls
 unfoldable pub bookAnswers : List Call → Book → List Answer
@@ -53,19 +49,19 @@ pub record Step : Type 0 where
 abbrev pub callsOf : List Step → List Call
 callsOf steps = map (λ s. s .call) steps
 
--- the five tables with another cost table
-abbrev pub withCost : List ℕ → Tables → Tables
-withCost cost t = record { cost = cost; time = t .time; ways = t .ways; share = t .share; score = t .score }
-
--- what a call is lent of the five t: all of them, but work out its own cost table
+-- what a call is lent: the tables as the last one left them; work out, beside them, its own cost table, the three calls that make, work
+-- out or read a hall the passing times that the host has set right before, and the moving call passing times of 0
 abbrev pub lent : Call → Tables → Tables
-lent c t = withCost (rule (c .n) (c .ask) (t .cost) .lentCost) t
+lent c t = withLayout (rule (c .n) (c .ask) (t .layout) .lent) t
 
--- the five after it: as it left them, but after a refused call the former cost table stays, so that one that a work out brought goes
+-- the tables after it: as it left them, with the passing times that were brought, else the former ones; after a refused call the former
+-- layout stays: a cost table that a work out brought goes, and the host has set the passing times back
 abbrev pub kept : Step → Tables → Tables
-kept s t = withCost (cond (accepted (s .answer .refusal)) (s .left .cost) (t .cost)) (s .left)
+kept s t =
+    let brought : Layout = laid (s .left .layout .cost) (rule (s .call .n) (s .call .ask) (t .layout) .leaves .passing) in
+    withLayout (cond (accepted (s .answer .refusal)) brought (t .layout)) (s .left)
 
--- a sequence of calls from the five tables t: each is lent the five that the last one left, and does what its contract promises
+-- a sequence of calls from the tables t: each is lent those that the last one left, and does what its contract promises
 unfoldable pub Sequence : Tables → List Step → Type 0
 Sequence t [] = Unit {0}
 Sequence t (s ∷ rest) = Done (s .call) (lent (s .call) t) (s .left) (s .answer) × Sequence (kept s t) rest
@@ -94,41 +90,42 @@ pub record SetFacts (n : ℕ) (sources : ℕ → Bool) (t t′ : Tables) (a : An
 
 -- an accepted edit: beyond that, each row of its set changes
 pub record EditFacts (n : ℕ) (e : Edit) (t t′ : Tables) (a : Answer) : Type 0 where
-  pub set : SetFacts n (touched n (t .cost) (t′ .cost) (e .u) (e .v)) t t′ a
+  pub set : SetFacts n (touched n (t .layout) (t′ .layout) (e .u) (e .v)) t t′ a
   pub changes : (s : ℕ) → s < n → changed n t t′ s ≡ has (a .touched) s
-  pub tells : a .before ≡ entry n (t .cost) (e .u) (e .v)
+  pub tells : a .before ≡ entry n (t .layout .cost) (e .u) (e .v)
   pub reverses : Reverses (record { n = n; ask = edit (reversal (e .kind) (e .u) (e .v) a) }) t t′ a
 
--- where a sequence starts: at an empty hall, or at a hall that was moved over
+-- where a sequence starts: at an empty hall with its passing times, or at a hall that was moved over
 pub data Start : Type 0 where
-  atEmptyHall atMovedHall : Start
+  atEmptyHall : (passing : List ℕ) → Start
+  atMovedHall : Start
 
--- the call that leaves the five tables to start from
+-- the call that leaves the tables to start from
 abbrev pub startAsk : Start → Ask
-startAsk atEmptyHall = emptyHall
+startAsk (atEmptyHall passing) = emptyHall passing
 startAsk atMovedHall = moveOver
 
--- the book at first: no links, or those of the moved hall
-abbrev pub firstLinks : Start → ℕ → Tables → List ℕ
-firstLinks atEmptyHall N start = noLinks N .links
-firstLinks atMovedHall N start = start .cost
+-- the book at first: no links and these passing times, or the links of the moved hall and every passing time 0
+abbrev pub firstLayout : Start → ℕ → Tables → Layout
+firstLayout (atEmptyHall passing) N start = noLinks N passing
+firstLayout atMovedHall N start = laid (start .layout .cost) (noPassing N)
 
 abbrev pub firstBook : Start → ℕ → Tables → Book
-firstBook from N start = record { stops = N; links = firstLinks from N start }
+firstBook from N start = record { stops = N; layout = firstLayout from N start }
 
--- five tables that such a call with N left, accepted, whatever it found in them
+-- tables that such a call with N left, accepted, whatever it found in them
 pub record Started (from : Start) (N : ℕ) (start : Tables) : Type 0 where
   pub found : Tables
   pub said : Answer
-  pub done : Done (record { n = N; ask = startAsk from }) found start said
+  pub done : let c : Call = record { n = N; ask = startAsk from } in Done c (lent c found) start said
   pub taken : said .refusal ≡ Accepted
 
 -- demand 3, from an empty or a moved hall: the tables after the sequence, the answers in it, its accepted edits, and its accepted lists of edits
 unfoldable pub Demand3 : Type 0
 Demand3 = (from : Start) (N : ℕ) (start : Tables) (steps : List Step) → Started from N start → Sequence start steps →
-    (run kept steps start ≡ filled scale N (run bookAfter (callsOf steps) (firstBook from N start) .links)) ×
+    (run kept steps start ≡ filled scale N (run bookAfter (callsOf steps) (firstBook from N start) .layout)) ×
     (map (λ s. s .answer) steps ≡ bookAnswers (callsOf steps) (firstBook from N start)) ×
     ((before rest : List Step) (s : Step) (e : Edit) → steps ≡ before ++ s ∷ rest → s .call .ask ≡ edit e →
     s .answer .refusal ≡ Accepted → EditFacts (s .call .n) e (run kept before start) (s .left) (s .answer)) ×
     ((before rest : List Step) (s : Step) (edits : List Edit) → steps ≡ before ++ s ∷ rest → s .call .ask ≡ editList edits →
-    s .answer .refusal ≡ Accepted → let t : Tables = run kept before start in SetFacts (s .call .n) (touchedBy (s .call .n) edits (t .cost)) t (s .left) (s .answer))
+    s .answer .refusal ≡ Accepted → let t : Tables = run kept before start in SetFacts (s .call .n) (touchedBy (s .call .n) edits (t .layout)) t (s .left) (s .answer))

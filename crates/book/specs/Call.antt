@@ -1,18 +1,18 @@
 -- The calls of document 01, with what the requests of document 02 add: one rule says what each is lent, looks at, leaves and says; by
--- it the refusal, the tables after the call and the answer on any tables; and what a contract promises. Assumes nothing.
+-- it the refusal, the tables after the call and the answer on any tables that it is lent; and what a contract promises. Assumes nothing.
 use Prim.Native.Nat.{ℕ, _+_, _*_}
 use mathlib.Core.Path.{_≡_}
 use mathlib.Core.Bool.{Bool, true, false, cond, _&&_, _||_}
 use mathlib.Core.List.{List, [], _∷_, _++_}
 use lib.Dec.{eqb, ltb, leb}
-use lib.ListN.{length, drop, set, replicate}
+use lib.ListN.{length, drop, set}
 use Rattle.routes.specs.Route.{sumTo, setOf}
-use Rattle.book.specs.Hall.{Tables, mostStops, largestCost, mostWays, mostEdits, scale, oldMostWays, oldScale, upTo, entry, filled, sized, validPair, validCosts, uncrowded, right, touched, routeList, imageOf, isImage, costsOf}
+use Rattle.book.specs.Hall.{Layout, laid, Tables, mostStops, largestCost, mostWays, mostEdits, scale, oldMostWays, oldScale, upTo, entry, filled, sized, validPair, validCosts, validPassing, linksAlone, noLinks, uncrowded, right, touched, routeList, imageOf, isImage, costsOf}
 use Rattle.book.specs.declared.Edit.{Edit}
 use Rattle.book.specs.declared.Kind.{Kind}
 use Rattle.book.specs.declared.Kind.the-variants.{Insert, Cheapen, Raise, Delete}
 use Rattle.book.specs.declared.Refusal.{Refusal}
-use Rattle.book.specs.declared.Refusal.the-variants.{Accepted, BadSize, BadLength, BadTables, BadStop, BadCost, LinkPresent, LinkAbsent, CostWrongSide, BadImage, ShortBuffer, TooManyWays, ListTooLong}
+use Rattle.book.specs.declared.Refusal.the-variants.{Accepted, BadSize, BadLength, BadTables, BadStop, BadCost, LinkPresent, LinkAbsent, CostWrongSide, BadImage, ShortBuffer, TooManyWays, ListTooLong, BadPassing}
 
 -- the documents' number of each refusal, 0 for an accepted call
 abbrev pub number : Refusal → ℕ
@@ -29,19 +29,21 @@ number BadImage = 9
 number ShortBuffer = 10
 number TooManyWays = 11
 number ListTooLong = 12
+number BadPassing = 13
 
 abbrev pub accepted : Refusal → Bool
 accepted r = eqb (number r) 0
 
--- what is asked, with what the call brings
+-- what is asked, with what the call brings; the passing times are brought by the three calls that make, work out or read a hall
 pub data Ask : Type 0 where
-  emptyHall audit moveOver : Ask
-  workOut : (cost : List ℕ) → Ask
+  audit moveOver : Ask
+  emptyHall : (passing : List ℕ) → Ask
+  workOut : (brought : Layout) → Ask
   edit : (e : Edit) → Ask
   editList : (edits : List Edit) → Ask
   listRoutes : (s t : ℕ) → (buffer : List ℕ) → Ask
   imageWrite : (buffer : List ℕ) → Ask
-  imageRead : (image : List ℕ) → Ask
+  imageRead : (image passing : List ℕ) → Ask
 
 -- a call brings its n too
 pub record Call : Type 0 where
@@ -67,9 +69,9 @@ costTests Delete c present next = need (ltb 0 present) LinkAbsent next
 abbrev pub editTests : ℕ → Edit → List ℕ → Refusal → Refusal
 editTests n e cost next = need (validPair n (e .u) (e .v)) BadStop (costTests (e .kind) (e .cost) (entry n cost (e .u) (e .v)) next)
 
--- 11, by the costs that the call would leave
-abbrev pub waysTest : ℕ → List ℕ → Refusal
-waysTest n cost = need (uncrowded mostWays n cost) TooManyWays Accepted
+-- 11, by the layout that the call would leave
+abbrev pub waysTest : ℕ → Layout → Refusal
+waysTest n l = need (uncrowded mostWays n l) TooManyWays Accepted
 
 -- the cost that an edit sets: 0 for delete
 abbrev pub costSet : Kind → ℕ → ℕ
@@ -78,27 +80,30 @@ costSet Cheapen c = c
 costSet Raise c = c
 costSet Delete c = 0
 
--- the cost table with that one entry set
-abbrev pub withEdit : ℕ → Edit → List ℕ → List ℕ
-withEdit n e cost = set cost (e .u * n + e .v) (costSet (e .kind) (e .cost))
+-- the layout with that one cost set
+abbrev pub withCost : (n u v c : ℕ) → Layout → Layout
+withCost n u v c l = laid (set (l .cost) (u * n + v) c) (l .passing)
 
--- 4 to 11: what refuses an edit in the hall with these costs
-abbrev pub editRefusal : ℕ → Edit → List ℕ → Refusal
-editRefusal n e cost = editTests n e cost (waysTest n (withEdit n e cost))
+abbrev pub withEdit : ℕ → Edit → Layout → Layout
+withEdit n e l = withCost n (e .u) (e .v) (costSet (e .kind) (e .cost)) l
+
+-- 4 to 11: what refuses an edit in the hall of this layout
+abbrev pub editRefusal : ℕ → Edit → Layout → Refusal
+editRefusal n e l = editTests n e (l .cost) (waysTest n (withEdit n e l))
 
 -- a state after some steps, each from where the last one led
 unfoldable pub run : {C S : Type 0} → (C → S → S) → List C → S → S
 run step [] state = state
 run step (c ∷ rest) state = run step rest (step c state)
 
--- the costs that a list of edits leaves, one after another
-abbrev pub withEdits : ℕ → List Edit → List ℕ → List ℕ
-withEdits n edits cost = run (withEdit n) edits cost
+-- the layout that a list of edits leaves, one after another
+abbrev pub withEdits : ℕ → List Edit → Layout → Layout
+withEdits n edits l = run (withEdit n) edits l
 
 -- touched by some edit of a list, each in the hall that its predecessors made
-unfoldable pub touchedBy : ℕ → List Edit → List ℕ → ℕ → Bool
-touchedBy n [] cost s = false
-touchedBy n (e ∷ rest) cost s = touched n cost (withEdit n e cost) (e .u) (e .v) s || touchedBy n rest (withEdit n e cost) s
+unfoldable pub touchedBy : ℕ → List Edit → Layout → ℕ → Bool
+touchedBy n [] l s = false
+touchedBy n (e ∷ rest) l s = touched n l (withEdit n e l) (e .u) (e .v) s || touchedBy n rest (withEdit n e l) s
 
 -- the first refused edit of a list: its refusal and its place, 0 where none is refused
 pub record Verdict : Type 0 where
@@ -106,11 +111,11 @@ pub record Verdict : Type 0 where
   pub place : ℕ
 
 -- the edits judged in turn, each in the hall that its predecessors made; k is the place of the first in hand
-unfoldable pub judged : (n k : ℕ) → List Edit → List ℕ → Verdict
-judged n k [] cost = record { refusal = Accepted; place = 0 }
-judged n k (e ∷ rest) cost =
-    let refusal : Refusal = editRefusal n e cost in
-    cond (accepted refusal) (judged n (k + 1) rest (withEdit n e cost)) (record { refusal = refusal; place = k })
+unfoldable pub judged : (n k : ℕ) → List Edit → Layout → Verdict
+judged n k [] l = record { refusal = Accepted; place = 0 }
+judged n k (e ∷ rest) l =
+    let refusal : Refusal = editRefusal n e l in
+    cond (accepted refusal) (judged n (k + 1) rest (withEdit n e l)) (record { refusal = refusal; place = k })
 
 -- 4 to 11: the refusals of which a list tells a place
 abbrev pub ofAnEdit : Refusal → Bool
@@ -144,72 +149,83 @@ names n sources before =
 abbrev pub writes : (bytes buffer : List ℕ) → Answer
 writes bytes buffer = record { refusal = Accepted; place = 0; touched = 0; rows = 0; before = 0; length = length bytes; buffer = bytes ++ drop (length bytes) buffer }
 
--- what a call is lent and looks at, over the present costs, and what it leaves and says if it is accepted
+-- what a call is lent and looks at, over the present layout, and what it leaves and says if it is accepted
 pub record Rule : Type 0 where
-  pub lentCost : List ℕ  -- the present cost table, or the one that it brings
+  pub lent : Layout  -- the present layout, but what it brings in place of the present; the moving call has links alone
   pub lentBuffer : List ℕ
   pub fits : Bool  -- 2, of what it brings
   pub sound : Tables → Bool  -- 3; true where it does not look
   pub soundInBook : Tables → Bool  -- 3 in a sequence, of the tables that the book gives; true but for the moving call
   pub tests : Refusal  -- 4 to 12
   pub place : Refusal → ℕ  -- that the refusal of a list tells; 0 in every other call
-  pub leaves : List ℕ  -- the costs of the hall whose tables it leaves; of audit and the calls that write these are the tables that it was lent
+  pub leaves : Layout  -- of the hall whose tables it leaves; of audit and the calls that write these are the tables that it was lent
   pub says : Answer
 
--- a call that brings nothing and is lent no buffer
-abbrev pub onPresent : List ℕ → (Tables → Bool) → Refusal → List ℕ → Answer → Rule
-onPresent cost sound tests leaves says = record { lentCost = cost; lentBuffer = []; fits = true; sound = sound; soundInBook = λ t. true; tests = tests; place = λ r. 0; leaves = leaves; says = says }
+-- a call on the present layout that brings none and is lent no buffer
+abbrev pub onPresent : Layout → (Tables → Bool) → Refusal → Layout → Answer → Rule
+onPresent l sound tests leaves says = record { lent = l; lentBuffer = []; fits = true; sound = sound; soundInBook = λ t. true; tests = tests; place = λ r. 0; leaves = leaves; says = says }
+
+-- a call that brings the layout of the hall whose tables it leaves, or of it the passing times alone, and looks at no table
+abbrev pub bringing : (lent : Layout) → (fits : Bool) → Refusal → (leaves : Layout) → Rule
+bringing lent fits tests leaves = record { lent = lent; lentBuffer = []; fits = fits; sound = λ t. true; soundInBook = λ t. true; tests = tests; place = λ r. 0; leaves = leaves; says = plain Accepted [] }
 
 -- a call that writes bytes in front of its buffer: 4 where the stops that it brings are not known to the hall, and then 10
-abbrev pub writing : ℕ → (known : Bool) → (bytes buffer : List ℕ) → List ℕ → Rule
-writing n known bytes buffer cost =
+abbrev pub writing : ℕ → (known : Bool) → (bytes buffer : List ℕ) → Layout → Rule
+writing n known bytes buffer l =
     let tests : Refusal = need known BadStop (need (leb (length bytes) (length buffer)) ShortBuffer Accepted) in
-    record { lentCost = cost; lentBuffer = buffer; fits = true; sound = right scale mostWays n; soundInBook = λ t. true; tests = tests; place = λ r. 0; leaves = cost; says = writes bytes buffer }
+    record { lent = l; lentBuffer = buffer; fits = true; sound = right scale mostWays n; soundInBook = λ t. true; tests = tests; place = λ r. 0; leaves = l; says = writes bytes buffer }
 
--- by n, what is asked and the present costs
-unfoldable pub rule : ℕ → Ask → List ℕ → Rule
-rule n emptyHall cost = onPresent cost (λ t. true) Accepted (replicate (n * n) 0) (plain Accepted [])
-rule n audit cost = onPresent cost (right scale mostWays n) Accepted cost (plain Accepted [])
-rule n moveOver cost =
-    let old : Tables → Bool = right oldScale oldMostWays n in
-    record { lentCost = cost; lentBuffer = []; fits = true; sound = old; soundInBook = old; tests = waysTest n cost; place = λ r. 0; leaves = cost; says = plain Accepted [] }
-rule n (workOut c) cost =
-    record { lentCost = c; lentBuffer = []; fits = eqb (length c) (n * n); sound = λ t. true; soundInBook = λ t. true; tests = need (validCosts n c) BadCost (waysTest n c); place = λ r. 0; leaves = c; says = plain Accepted [] }
-rule n (edit e) cost =
-    let cost′ : List ℕ = withEdit n e cost in
-    let says : Answer = names n (touched n cost cost′ (e .u) (e .v)) (entry n cost (e .u) (e .v)) in
-    onPresent cost (right scale mostWays n) (editRefusal n e cost) cost′ says
-rule n (editList edits) cost =
-    let first : Verdict = judged n 1 edits cost in
+-- the tables with another layout
+abbrev pub withLayout : Layout → Tables → Tables
+withLayout l t = record { layout = l; time = t .time; ways = t .ways; share = t .share; score = t .score }
+
+-- by n, what is asked and the present layout. The moving call is lent passing times of 0; it leaves the layout, since the host's passing
+-- times stay: where it is accepted, the tables are the same with them and without (`moved-same`, proved)
+unfoldable pub rule : ℕ → Ask → Layout → Rule
+rule n (emptyHall passing) l =
+    bringing (laid (l .cost) passing) (eqb (length passing) n) Accepted (noLinks n passing)
+rule n audit l = onPresent l (right scale mostWays n) Accepted l (plain Accepted [])
+rule n moveOver l =
+    let old : Tables → Bool = λ t. right oldScale oldMostWays n (withLayout (linksAlone n l) t) in
+    record { lent = linksAlone n l; lentBuffer = []; fits = true; sound = old; soundInBook = old; tests = waysTest n (linksAlone n l); place = λ r. 0; leaves = l; says = plain Accepted [] }
+rule n (workOut l′) l =
+    bringing l′ (eqb (length (l′ .cost)) (n * n) && eqb (length (l′ .passing)) n) (need (validCosts n (l′ .cost)) BadCost (waysTest n l′)) l′
+rule n (edit e) l =
+    let l′ : Layout = withEdit n e l in
+    let says : Answer = names n (touched n l l′ (e .u) (e .v)) (entry n (l .cost) (e .u) (e .v)) in
+    onPresent l (right scale mostWays n) (editRefusal n e l) l′ says
+rule n (editList edits) l =
+    let first : Verdict = judged n 1 edits l in
     let tests : Refusal = need (leb (length edits) mostEdits) ListTooLong (first .refusal) in
     let place : Refusal → ℕ = λ r. cond (ofAnEdit r) (first .place) 0 in
-    let says : Answer = names n (touchedBy n edits cost) 0 in
-    record { lentCost = cost; lentBuffer = []; fits = true; sound = right scale mostWays n; soundInBook = λ t. true; tests = tests; place = place; leaves = withEdits n edits cost; says = says }
-rule n (listRoutes s t buffer) cost = writing n (ltb s n && ltb t n) (routeList n cost s t) buffer cost
-rule n (imageWrite buffer) cost = writing n true (imageOf n cost) buffer cost
-rule n (imageRead image) cost =
-    let cost′ : List ℕ = costsOf n image in
-    onPresent cost (λ t. true) (need (isImage n image) BadImage (waysTest n cost′)) cost′ (plain Accepted [])
+    let says : Answer = names n (touchedBy n edits l) 0 in
+    record { lent = l; lentBuffer = []; fits = true; sound = right scale mostWays n; soundInBook = λ t. true; tests = tests; place = place; leaves = withEdits n edits l; says = says }
+rule n (listRoutes s t buffer) l = writing n (ltb s n && ltb t n) (routeList n l s t) buffer l
+rule n (imageWrite buffer) l = writing n true (imageOf n (l .cost)) buffer l
+rule n (imageRead image passing) l =
+    let l′ : Layout = laid (costsOf n image) passing in
+    bringing (laid (l .cost) passing) (eqb (length passing) n) (need (isImage n image) BadImage (waysTest n l′)) l′
 
--- tests 1, 2 and 3, and then the call's own
-abbrev pub chain : ℕ → (lengths sound : Bool) → Refusal → Refusal
-chain n lengths sound tests = need (upTo mostStops n) BadSize (need lengths BadLength (need sound BadTables tests))
+-- tests 1, 2, 13 and 3, and then the call's own
+abbrev pub chain : ℕ → (lengths passable sound : Bool) → Refusal → Refusal
+chain n lengths passable sound tests = need (upTo mostStops n) BadSize (need lengths BadLength (need passable BadPassing (need sound BadTables tests)))
 
 -- the answer by a rule: a refused call says its refusal and, of a list, the place
 abbrev pub reply : Refusal → Rule → Answer
 reply refusal r = cond (accepted refusal) (r .says) (refusedAt refusal (r .place refusal) (r .lentBuffer))
 
--- the call on any tables: its refusal, by the first test that fails, the tables after it and its answer
+-- the call on any tables that it can be lent (`lent`, Book.antt): its refusal, by the first test that fails, the tables after it and its
+-- answer
 unfoldable pub refusal : Call → Tables → Refusal
 refusal c t =
-    let r : Rule = rule (c .n) (c .ask) (t .cost) in
-    chain (c .n) (r .fits && sized (c .n) t) (r .sound t) (r .tests)
+    let r : Rule = rule (c .n) (c .ask) (t .layout) in
+    chain (c .n) (r .fits && sized (c .n) t) (validPassing (c .n) (r .lent .passing)) (r .sound t) (r .tests)
 
 unfoldable pub after : Call → Tables → Tables
-after c t = cond (accepted (refusal c t)) (filled scale (c .n) (rule (c .n) (c .ask) (t .cost) .leaves)) t
+after c t = cond (accepted (refusal c t)) (filled scale (c .n) (rule (c .n) (c .ask) (t .layout) .leaves)) t
 
 unfoldable pub answer : Call → Tables → Answer
-answer c t = reply (refusal c t) (rule (c .n) (c .ask) (t .cost))
+answer c t = reply (refusal c t) (rule (c .n) (c .ask) (t .layout))
 
 -- what the contract of every call promises: lent the tables t, it left the tables t′ and answered a, as the documents say
 pub record Done (c : Call) (t t′ : Tables) (a : Answer) : Type 0 where

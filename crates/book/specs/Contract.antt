@@ -1,5 +1,5 @@
--- How contracts name what a call is lent and gives back: the five tables as it found them and as it left them, and its answer.
--- Assumes nothing.
+-- How contracts name what a call is lent and gives back: the tables and the passing times as it found them and as it left them, and
+-- its answer. Assumes nothing.
 use Prim.Native.Nat.{ℕ}
 use mathlib.Core.Path.{_≡_}
 use mathlib.Core.Bool.{true, cond}
@@ -8,7 +8,7 @@ use lib.Dec.{leb}
 use lib.ListN.{length}
 use denote.Ref.{RefT}
 use denote.Triple.Both.{Both}
-use Rattle.book.specs.Hall.{Tables, mostStops, mostWays, scale, upTo, sized, right}
+use Rattle.book.specs.Hall.{Layout, laid, Tables, mostStops, mostWays, scale, upTo, sized, validPassing, noPassing, right}
 use Rattle.book.specs.Call.{Answer, plain, writes, chain}
 use Rattle.book.specs.declared.EditAnswer.{EditAnswer}
 use Rattle.book.specs.declared.ListAnswer.{ListAnswer}
@@ -23,26 +23,36 @@ Slice = RefT (List ℕ)
 abbrev pub Param : Type 0
 Param = Both Slice Slice
 
--- the five tables as they are, as a call found them, and as it left them
-abbrev pub tables : (cost time ways share score : List ℕ) → Tables
-tables cost time ways share score = record { cost = cost; time = time; ways = ways; share = share; score = score }
+-- the tables as they are, as a call found them, and as it left them; the passing times are lent to be read
+abbrev pub tables : (cost passing time ways share score : List ℕ) → Tables
+tables cost passing time ways share score = record { layout = laid cost passing; time = time; ways = ways; share = share; score = score }
 
-abbrev pub these : (cost time ways share score : Slice) → Tables
-these cost time ways share score = tables (cost .now) (time .now) (ways .now) (share .now) (score .now)
+abbrev pub these : (cost passing time ways share score : Slice) → Tables
+these cost passing time ways share score = tables (cost .now) (passing .now) (time .now) (ways .now) (share .now) (score .now)
 
-abbrev pub found : (cost time ways share score : Param) → Tables
-found cost time ways share score = these (cost .entry) (time .entry) (ways .entry) (share .entry) (score .entry)
+abbrev pub found : (cost passing time ways share score : Param) → Tables
+found cost passing time ways share score = these (cost .entry) (passing .entry) (time .entry) (ways .entry) (share .entry) (score .entry)
 
-abbrev pub left : (cost time ways share score : Param) → Tables
-left cost time ways share score = these (cost .exit) (time .exit) (ways .exit) (share .exit) (score .exit)
+abbrev pub left : (cost passing time ways share score : Param) → Tables
+left cost passing time ways share score = these (cost .exit) (passing .entry) (time .exit) (ways .exit) (share .exit) (score .exit)
 
 -- the same beside a cost table that is lent to be read
-abbrev pub leftBeside : (cost time ways share score : Param) → Tables
-leftBeside cost time ways share score = these (cost .entry) (time .exit) (ways .exit) (share .exit) (score .exit)
+abbrev pub leftBeside : (cost passing time ways share score : Param) → Tables
+leftBeside cost passing time ways share score = these (cost .entry) (passing .entry) (time .exit) (ways .exit) (share .exit) (score .exit)
 
--- the same where costs, times and ways are lent to be read
-abbrev pub leftShares : (cost time ways share score : Param) → Tables
-leftShares cost time ways share score = these (cost .entry) (time .entry) (ways .entry) (share .exit) (score .exit)
+-- the same for the moving call, which is lent no passing times and has 0 for each of n stops; costs, times and ways are lent to be read
+abbrev pub foundUnpassed : ℕ → (cost time ways share score : Param) → Tables
+foundUnpassed n cost time ways share score = tables (cost .entry .now) (noPassing n) (time .entry .now) (ways .entry .now) (share .entry .now) (score .entry .now)
+
+abbrev pub leftShares : ℕ → (cost time ways share score : Param) → Tables
+leftShares n cost time ways share score = tables (cost .entry .now) (noPassing n) (time .entry .now) (ways .entry .now) (share .exit .now) (score .exit .now)
+
+-- the layout of two lent tables, as they are and as a call found them
+abbrev pub thisLayout : (cost passing : Slice) → Layout
+thisLayout cost passing = laid (cost .now) (passing .now)
+
+abbrev pub foundLayout : (cost passing : Param) → Layout
+foundLayout cost passing = thisLayout (cost .entry) (passing .entry)
 
 -- an answer as the code gives it: a refusal alone, an edit's, a list's, and that of a call that writes with its buffer
 abbrev pub ofRefusal : Refusal → Answer
@@ -61,14 +71,15 @@ ofWrite a buffer = record { refusal = a .refusal; place = 0; touched = 0; rows =
 abbrev pub stored : (bytes buffer : List ℕ) → Answer
 stored bytes buffer = cond (leb (length bytes) (length buffer)) (writes bytes buffer) (plain ShortBuffer buffer)
 
--- the door: tests 1 and 2 of the five lent tables
+-- the door: tests 1, 2 and 13 of the lent tables
 abbrev pub doorTests : ℕ → Tables → Refusal
-doorTests n t = chain n (sized n t) true Accepted
+doorTests n t = chain n (sized n t) (validPassing n (t .layout .passing)) true Accepted
 
 -- what the door found, and what the audit found behind it
 pub record Inside (n : ℕ) (t : Tables) : Type 0 where
   pub size : upTo mostStops n ≡ true
   pub lengths : sized n t ≡ true
+  pub passable : validPassing n (t .layout .passing) ≡ true
 
 pub record Audited (n : ℕ) (t : Tables) : Type 0 where
   pub inside : Inside n t

@@ -1,11 +1,12 @@
 -- The hall (weighted directed graph) of document 01: its limits, its five tables and what they hold when they are right,
--- its routes as bytes, and its image (serialised form). Numbers are unbounded here: what comes from code is bytes. Assumes nothing.
+-- its routes as bytes, and its image (serialised form); with the passing times of document 02, §7. Numbers are unbounded here: what comes
+-- from code is bytes. Assumes nothing.
 use Prim.Native.Nat.{ℕ, zero, suc, _+_, _*_, _-_, _/_, _%_}
 use mathlib.Core.Bool.{Bool, cond, not, _&&_, _||_}
 use mathlib.Core.List.{List, [], _∷_, _++_, map}
 use lib.Dec.{eqb, ltb, leb}
-use lib.ListN.{length, getD}
-use Rattle.routes.specs.Route.{Costs, sumTo, joinTo, listTo, allTo, same, link, leastTime, ways, quickestRoutes, share, score, used}
+use lib.ListN.{length, getD, replicate}
+use Rattle.routes.specs.Route.{Costs, sumTo, joinTo, listTo, allTo, same, link, costsFrom, leastTime, ways, quickestRoutes, share, score, used}
 
 -- the limits of a hall and of a list of edits, and the scale L; the mark stands with the times
 abbrev pub mostStops : ℕ
@@ -13,6 +14,9 @@ mostStops = 64
 
 abbrev pub largestCost : ℕ
 largestCost = 65535
+
+abbrev pub largestPassing : ℕ
+largestPassing = 65535
 
 abbrev pub mostWays : ℕ
 mostWays = 12
@@ -42,9 +46,17 @@ divided l = map (λ x. x / oldPerNew) l
 abbrev pub upTo : ℕ → ℕ → Bool
 upTo m x = leb 1 x && leb x m
 
--- the five tables, rows in order of source
-pub record Tables : Type 0 where
+-- the links, as their cost table, and the passing time of each stop: all that the other tables depend on
+pub record Layout : Type 0 where
   pub cost : List ℕ
+  pub passing : List ℕ
+
+abbrev pub laid : (cost passing : List ℕ) → Layout
+laid cost passing = record { cost = cost; passing = passing }
+
+-- the five tables, rows in order of source, and beside the first of them the passing times
+pub record Tables : Type 0 where
+  pub layout : Layout
   pub time : List ℕ
   pub ways : List ℕ
   pub share : List ℕ
@@ -57,17 +69,21 @@ table n f = joinTo n (λ s. listTo n (f s))
 abbrev pub entry : ℕ → List ℕ → ℕ → ℕ → ℕ
 entry n l s t = getD l (s * n + t) 0
 
--- the tables of the hall with these costs, by listing every route; L is the scale
-unfoldable pub filled : ℕ → ℕ → List ℕ → Tables
-filled L n cost =
-    let W : Costs = entry n cost in
-    record { cost = cost; time = table n (leastTime W n); ways = table n (ways W n); share = table n (λ s. share W n s L); score = listTo n (score W n L) }
+-- what the links of a layout cost on routes from s
+abbrev pub costsIn : ℕ → Layout → ℕ → Costs
+costsIn n l s = costsFrom (entry n (l .cost)) (λ v. getD (l .passing) v 0) s
+
+-- the tables of the hall of a layout, by listing every route; L is the scale
+unfoldable pub filled : ℕ → ℕ → Layout → Tables
+filled L n l =
+    let C : ℕ → Costs = costsIn n l in
+    record { layout = l; time = table n (λ s. leastTime (C s) n s); ways = table n (λ s. ways (C s) n s); share = table n (λ s. share (C s) n s L); score = listTo n (score C n L) }
 
 -- each table has its length
 unfoldable pub sized : ℕ → Tables → Bool
 sized n t =
     let square : List ℕ → Bool = λ l. eqb (length l) (n * n) in
-    square (t .cost) && (square (t .time) && (square (t .ways) && (square (t .share) && eqb (length (t .score)) n)))
+    square (t .layout .cost) && (eqb (length (t .layout .passing)) n && (square (t .time) && (square (t .ways) && (square (t .share) && eqb (length (t .score)) n))))
 
 -- two different stops
 abbrev pub validPair : ℕ → ℕ → ℕ → Bool
@@ -77,19 +93,34 @@ validPair n u v = ltb u n && (ltb v n && not (eqb u v))
 unfoldable pub validCosts : ℕ → List ℕ → Bool
 validCosts n cost = allTo n (λ u. allTo n (λ v. leb (entry n cost u v) (cond (eqb u v) 0 largestCost)))
 
+-- no passing time is too long
+unfoldable pub validPassing : ℕ → List ℕ → Bool
+validPassing n passing = allTo n (λ v. leb (getD passing v 0) largestPassing)
+
+-- every passing time 0, and a layout with its links alone: so hallscore and the moving call have it
+abbrev pub noPassing : ℕ → List ℕ
+noPassing n = replicate n 0
+
+abbrev pub linksAlone : ℕ → Layout → Layout
+linksAlone n l = laid (l .cost) (noPassing n)
+
+-- a layout without links
+abbrev pub noLinks : ℕ → (passing : List ℕ) → Layout
+noLinks n passing = laid (replicate (n * n) 0) passing
+
 -- no pair has more than m ways
-unfoldable pub uncrowded : ℕ → ℕ → List ℕ → Bool
-uncrowded m n cost = allTo n (λ s. allTo n (λ t. leb (ways (entry n cost) n s t) m))
+unfoldable pub uncrowded : ℕ → ℕ → Layout → Bool
+uncrowded m n l = allTo n (λ s. allTo n (λ t. leb (ways (costsIn n l s) n s t) m))
 
 -- the tables belong to their hall: what audit tests
 unfoldable pub right : ℕ → ℕ → ℕ → Tables → Bool
 right L m n t =
-    let f : Tables = filled L n (t .cost) in
-    validCosts n (t .cost) && (uncrowded m n (t .cost) && (same (t .time) (f .time) && (same (t .ways) (f .ways) && (same (t .share) (f .share) && same (t .score) (f .score)))))
+    let f : Tables = filled L n (t .layout) in
+    validCosts n (t .layout .cost) && (uncrowded m n (t .layout) && (same (t .time) (f .time) && (same (t .ways) (f .ways) && (same (t .share) (f .share) && same (t .score) (f .score)))))
 
--- a quickest route from s, over the costs before or after, uses the link u to v
-unfoldable pub touched : ℕ → List ℕ → List ℕ → ℕ → ℕ → ℕ → Bool
-touched n before after u v s = used (entry n before) n s u v || used (entry n after) n s u v
+-- a quickest route from s, in the layout before or after, uses the link u to v
+unfoldable pub touched : ℕ → Layout → Layout → ℕ → ℕ → ℕ → Bool
+touched n before after u v s = used (costsIn n before s) n s u v || used (costsIn n after s) n s u v
 
 -- routes one behind the other, each behind the number of its stops
 unfoldable pub routeBytes : List (List ℕ) → List ℕ
@@ -98,8 +129,8 @@ routeBytes (r ∷ rs) = length r ∷ (r ++ routeBytes rs)
 
 -- the list of the quickest routes from s to t in bytes: their number, then each, the number of its stops in front of them; the order is that
 -- of `quickestRoutes`
-unfoldable pub routeList : ℕ → List ℕ → ℕ → ℕ → List ℕ
-routeList n cost s t = let rs : List (List ℕ) = quickestRoutes (entry n cost) n s t in length rs ∷ routeBytes rs
+unfoldable pub routeList : ℕ → Layout → ℕ → ℕ → List ℕ
+routeList n l s t = let rs : List (List ℕ) = quickestRoutes (costsIn n l s) n s t in length rs ∷ routeBytes rs
 
 -- x in k bytes, low byte first, and the number that stands so in k bytes at a place
 unfoldable pub lowFirst : ℕ → ℕ → List ℕ

@@ -3,7 +3,7 @@
 pub mod limits;
 pub mod number_of;
 
-// The answers of a call: the documents' twelve refusals, and acceptance. specs/Call.antt has their numbers.
+// The answers of a call: the documents' thirteen refusals, and acceptance. specs/Call.antt has their numbers.
 pub enum Refusal {
     Accepted,
     BadSize,
@@ -18,6 +18,7 @@ pub enum Refusal {
     ShortBuffer,
     TooManyWays,
     ListTooLong,
+    BadPassing,
 }
 
 // The kinds of edit of a link.

@@ -1,7 +1,7 @@
 // The limits of a hall, in one place.
 ghost use mathlib.Core.Path.{_≡_};
 ghost use Rattle.routes.specs.Route.{mark};
-ghost use Rattle.book.specs.Hall.{mostStops, largestCost, mostWays, mostEdits, scale, oldMostWays, oldScale, oldPerNew, upTo};
+ghost use Rattle.book.specs.Hall.{mostStops, largestCost, largestPassing, mostWays, mostEdits, scale, oldMostWays, oldScale, oldPerNew, upTo};
 
 // The hall as the holder of its limits; its contents lie in lent tables.
 pub struct Hall {}
@@ -11,8 +11,10 @@ impl Hall {
     pub const STOPS: usize = 64;
 
     pub const CELLS: usize = Hall::STOPS * Hall::STOPS;
-    // The largest cost of a link, and the most ways of a pair.
+    // The largest cost of a link, the longest time that it takes to pass a stop, and the most ways of a pair.
     pub const LARGEST_COST: u32 = 65535;
+
+    pub const LARGEST_PASSING: u32 = 65535;
 
     pub const WAYS: u32 = 12;
     // The most edits of a list.
@@ -44,6 +46,7 @@ impl Hall {
 pub fn limits_agree()
     ensures stops { λ r. do ⌜ (← ⟦Hall::STOPS⟧ .entry) ≡ mostStops ⌝ }
     ensures cost { λ r. do ⌜ (← ⟦Hall::LARGEST_COST⟧ .entry) ≡ largestCost ⌝ }
+    ensures passing { λ r. do ⌜ (← ⟦Hall::LARGEST_PASSING⟧ .entry) ≡ largestPassing ⌝ }
     ensures ways { λ r. do ⌜ (← ⟦Hall::WAYS⟧ .entry) ≡ mostWays ⌝ }
     ensures edits { λ r. do ⌜ (← ⟦Hall::EDITS⟧ .entry) ≡ mostEdits ⌝ }
     ensures mark { λ r. do ⌜ (← ⟦Hall::MARK⟧ .entry) ≡ mark ⌝ }

@@ -20,6 +20,7 @@ pub fn number_of(r: Refusal) -> u32
         Refusal::ShortBuffer => 10,
         Refusal::TooManyWays => 11,
         Refusal::ListTooLong => 12,
+        Refusal::BadPassing => 13,
     }
 }
 

@@ -53,13 +53,14 @@ pub fn answers(a: Answer, b: Answer) -> u64
     refusals + sets + rows + costs + places + lengths
 }
 
-// Five tables against five others, with all their room.
+// Six tables against six others, with all their room.
 pub fn differing(t: Tables, o: Tables) -> u64 {
-    sum(
+    let five = sum(
         short(&t.cost, &o.cost, CELLS),
         short(&t.time, &o.time, CELLS),
         short(&t.ways, &o.ways, CELLS),
         long(&t.share, &o.share, CELLS),
         long(&t.score, &o.score, STOPS),
-    )
+    );
+    wrapping_add_u64(five, short(&t.passing, &o.passing, STOPS))
 }

@@ -1,5 +1,5 @@
-// Five tables by value, with room for a hall of 65 stops. A hall of n stops has the first n × n
-// entries of each, and the first n scores.
+// Six tables by value, with room for a hall of 65 stops: the five that calls work on, and the passing times, which they only
+// read. A hall of n stops has the first n × n entries of each, and the first n passing times and scores.
 use super::entries::narrow;
 ghost use mathlib.Core.Path.{_≡_};
 ghost use Prim.Native.Nat.{_*_, _≤_, _<_};
@@ -11,6 +11,7 @@ pub const STOPS: usize = 65;
 
 pub struct Tables {
     pub cost: [u32; CELLS],
+    pub passing: [u32; STOPS],
     pub time: [u32; CELLS],
     pub ways: [u32; CELLS],
     pub share: [u64; CELLS],
@@ -19,16 +20,18 @@ pub struct Tables {
 
 // Every entry is x, or y in the tables of 64 bits.
 pub fn filled(x: u32, y: u64) -> Tables
-    ensures { λ r. ⌜ (r .cost ≡ replicate 4225 x) × (r .time ≡ replicate 4225 x) × (r .ways ≡ replicate 4225 x) ⌝ }
+    ensures { λ r. ⌜ (r .cost ≡ replicate 4225 x) × (r .passing ≡ replicate 65 x) × (r .time ≡ replicate 4225 x) × (r .ways ≡ replicate 4225 x) ⌝ }
     ensures { λ r. ⌜ (r .share ≡ replicate 4225 y) × (r .score ≡ replicate 65 y) ⌝ }
 {
     let cost = [x; CELLS];
+    let passing = [x; STOPS];
     let time = [x; CELLS];
     let ways = [x; CELLS];
     let share = [y; CELLS];
     let score = [y; STOPS];
     Tables {
         cost,
+        passing,
         time,
         ways,
         share,
@@ -50,7 +53,7 @@ pub fn cells(n: u64) -> usize
     if n > 65 { 0 } else { square(n) }
 }
 
-// The number of its scores.
+// The number of its scores, and of its passing times.
 pub fn stops(n: u64) -> usize
     ensures { λ r. ⌜ (n ≤ 65 → r ≡ n) × (r ≤ 65) ⌝ }
 {
@@ -79,12 +82,23 @@ pub fn place(n: u64, u: u64, v: u64) -> usize {
 
 // The same tables, but for the cost of the link from u to v.
 pub fn link(n: u64, u: u64, v: u64, c: u64, t: Tables) -> Tables
-    ensures { λ r. ⌜ (r .time ≡ t .time) × (r .ways ≡ t .ways) × (r .share ≡ t .share) × (r .score ≡ t .score) ⌝ }
+    ensures { λ r. ⌜ (r .passing ≡ t .passing) × (r .time ≡ t .time) × (r .ways ≡ t .ways) × (r .share ≡ t .share) × (r .score ≡ t .score) ⌝ }
 {
     let at = place(n, u, v);
     let mut next = t;
     if at < CELLS {
         next.cost[at] = narrow(c);
+    }
+    next
+}
+
+// The same tables, but for the passing time of v.
+pub fn pass(v: u64, x: u64, t: Tables) -> Tables
+    ensures { λ r. ⌜ (r .cost ≡ t .cost) × (r .time ≡ t .time) × (r .ways ≡ t .ways) × (r .share ≡ t .share) × (r .score ≡ t .score) ⌝ }
+{
+    let mut next = t;
+    if v < 65 {
+        next.passing[v as usize] = narrow(x);
     }
     next
 }

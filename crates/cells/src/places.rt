@@ -30,23 +30,25 @@ pub fn read_entry(n: usize, u: usize, v: usize, table: &[u32]) -> u32
     table[start(n, u) + v]
 }
 
-// Each of the five tables has its length.
+// Each of the five tables and the passing times have their length.
 pub fn sized(
     n: usize,
     cost: &[u32],
+    passing: &[u32],
     time: &[u32],
     ways: &[u32],
     share: &[u64],
     score: &[u64],
 ) -> bool
     requires { ⌜ n ≤ 64 ⌝ }
-    ensures { λ r. ⌜ r ≡ isSized n (found cost time ways share score) ⌝ }
+    ensures { λ r. ⌜ r ≡ isSized n (found cost passing time ways share score) ⌝ }
 {
     let square = cells(n);
     let costs = cost.len() == square;
+    let passings = passing.len() == n;
     let times = time.len() == square;
     let counts = ways.len() == square;
     let shares = share.len() == square;
     let scores = score.len() == n;
-    costs & (times & (counts & (shares & scores)))
+    costs & (passings & (times & (counts & (shares & scores))))
 }

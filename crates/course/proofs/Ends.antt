@@ -11,14 +11,13 @@ use borrow.Author.Tests.{eqb-true, ltb-true}
 use Rattle.routes.specs.Route.{has}
 use Rattle.routes.proofs.Booleans.{both}
 use Rattle.routes.proofs.Bits.{has-setOf, ones-setOf}
-use Rattle.book.specs.Hall.{Tables, mostEdits, scale, filled, sized}
-use Rattle.book.specs.Call.{Call, editList, accepted, withEdits, touchedBy, judged, rule, refusal, refusedAt, Done}
-use Rattle.book.specs.Book.{withCost}
+use Rattle.book.specs.Hall.{Tables, mostEdits, scale, filled, sized, Layout}
+use Rattle.book.specs.Call.{Call, editList, accepted, withEdits, touchedBy, judged, rule, refusal, refusedAt, Done, withLayout}
 use Rattle.book.specs.Contract.{ofList, Audited}
 use Rattle.book.specs.declared.Edit.{Edit}
 use Rattle.book.specs.declared.ListAnswer.{ListAnswer}
 use Rattle.book.specs.declared.Refusal.{Refusal}
-use Rattle.book.proofs.Filled.{sized-cost}
+use Rattle.book.proofs.Filled.{sized-cost, sized-passing}
 use Rattle.book.proofs.Sizes.{stops}
 use Rattle.book.proofs.Passed.{accepted-only}
 use Rattle.book.proofs.Refused.{refused-done}
@@ -32,34 +31,37 @@ use Rattle.course.proofs.Rows.{row-of}
 use Rattle.course.proofs.Verdicts.{admits-none, list-refusal}
 use Rattle.course.proofs.Standing.{Running, Part, Standing, running-audited}
 
--- tables have their lengths whatever their costs, as long as these have theirs
-sized-with : (n : ℕ) (t : Tables) (cost : List ℕ) → length cost ≡ length (t .cost) → sized n (withCost cost t) ≡ sized n t
+-- tables have their lengths whatever their layout, as long as it has its own
+sized-with : (n : ℕ) (t : Tables) (lay : Layout) → length (lay .cost) ≡ length (t .layout .cost) → length (lay .passing) ≡ length (t .layout .passing) →
+    sized n (withLayout lay t) ≡ sized n t
 unfolding sized
-sized-with n t cost same = rw same
+sized-with n t lay costs passings = rw (costs, passings)
 
 -- what the edits that were made ask to be put back
 module _ (n : ℕ) (start : Tables) (made : List Edit) (c : Course) (t : Tables) (r : Running n start made c t) where
   abbrev now : Tables
-  now = filled scale n (withEdits n made (start .cost))
+  now = filled scale n (withEdits n made (start .layout))
 
-  member-of : (s : ℕ) → s < n → has (c .touched) s ≡ touchedBy n made (start .cost) s
-  member-of s l = rw (r .union) (member n (touchedBy n made (start .cost)) s l)
+  member-of : (s : ℕ) → s < n → has (c .touched) s ≡ touchedBy n made (start .layout) s
+  member-of s l = rw (r .union) (member n (touchedBy n made (start .layout)) s l)
 
   can-undo : length made ≤ mostEdits → Undoes n c t
   can-undo few =
       let a = running-audited n start made c t r in
-      let square : length (start .cost) ≡ length (t .cost) = r .held .square ∙ sym (sized-cost n t (a .inside .lengths)) in
+      let square : length (start .layout .cost) ≡ length (t .layout .cost) = r .held .square ∙ sym (sized-cost n t (a .inside .lengths)) in
+      let long : length (start .layout .passing) ≡ length (t .layout .passing) = r .held .long ∙ sym (sized-passing n t (a .inside .lengths)) in
       record {
         kept = omega (arith, r .many);
         inside = λ i l. rw (sized-cost n t (a .inside .lengths)) (r .inside i l);
         outside = rw (r .back) (record {
           size = r .held .size;
-          lengths = sized-with n t (start .cost) square ∙ a .inside .lengths;
+          lengths = sized-with n t (start .layout) square long ∙ a .inside .lengths;
           valid = r .held .valid;
+          passable = r .held .passable;
           few = r .held .few;
-          below = λ s e. ltb-true s n (and-eq-true-iff (ltb s n) (touchedBy n made (start .cost) s) .0 (sym (has-setOf n (touchedBy n made (start .cost)) s) ∙ (rw (r .union) at e)) .0);
-          rows = λ s l away. rw (r .now) (row-of n (start .cost) (withEdits n made (start .cost)) s l (stops n (r .held .size) .1) (r .held .few)
-              (row-same n (filled scale n (start .cost)) now s (list-stays n 1 made (start .cost) (r .held) (r .taken) s l (sym (member-of s l) ∙ away))));
+          below = λ s e. ltb-true s n (and-eq-true-iff (ltb s n) (touchedBy n made (start .layout) s) .0 (sym (has-setOf n (touchedBy n made (start .layout)) s) ∙ (rw (r .union) at e)) .0);
+          rows = λ s l away. rw (r .now) (row-of n (start .layout) (withEdits n made (start .layout)) s l (stops n (r .held .size) .1) (r .held .few)
+              (row-same n (filled scale n (start .layout)) now s (list-stays n 1 made (start .layout) (r .held) (r .taken) s l (sym (member-of s l) ∙ away))));
         });
       }
 
@@ -93,7 +95,7 @@ module _ (n : ℕ) (list : List Edit) (start : Tables) (edits : List Edit) (c : 
   abbrev first : Refusal
   first = admits n (length list) start
 
-  refused-at : (r : Refusal) (place : ℕ) → refusal call start ≡ r → accepted r ≡ false → rule n (editList list) (start .cost) .place r ≡ place →
+  refused-at : (r : Refusal) (place : ℕ) → refusal call start ≡ r → accepted r ≡ false → rule n (editList list) (start .layout) .place r ≡ place →
       t′ ≡ start → ofList a ≡ refusedAt r place [] → Done call start t′ (ofList a)
   unfolding rule
   refused-at r place told shut at-place same said =
@@ -107,14 +109,14 @@ module _ (n : ℕ) (list : List Edit) (start : Tables) (edits : List Edit) (c : 
       let none : c .place ≡ 0 = rw f at (st .told .1) in
       let (said, left) = end .refused (ap accepted told ∙ f) in
       let (same, idle) = st .shut f in
-      refused-at first 0 (list-refusal n list start ∙ rw f) f (none-told first (judged n 1 list (start .cost) .place) (admits-none n (length list) start)) ((rw idle at left) ∙ same)
+      refused-at first 0 (list-refusal n list start ∙ rw f) f (none-told first (judged n 1 list (start .layout) .place) (admits-none n (length list) start)) ((rw idle at left) ∙ same)
       (ap ofList said ∙ λ i. refusedAt (told i) (none i) [])
 
   module _ (f : accepted first ≡ true) (p : Part n start list c t) where
-    told : c .refusal ≡ judged n 1 list (start .cost) .refusal
+    told : c .refusal ≡ judged n 1 list (start .layout) .refusal
     told = rw (f, whole f) at (st .told .0)
 
-    place : c .place ≡ judged n 1 list (start .cost) .place
+    place : c .place ≡ judged n 1 list (start .layout) .place
     place = rw (f, whole f) at (st .told .1)
 
     ends-taken : accepted (c .refusal) ≡ true → Done call start t′ (ofList a)
@@ -127,23 +129,23 @@ module _ (n : ℕ) (list : List Edit) (start : Tables) (edits : List Edit) (c : 
         (ap ofList said ∙ λ i. ofList (record {
           refusal = accepted-only (c .refusal) ok i;
           place = 0;
-          rows = (ap ones (r .union) ∙ ones-setOf n (touchedBy n list (start .cost))) i;
+          rows = (ap ones (r .union) ∙ ones-setOf n (touchedBy n list (start .layout))) i;
           touched = r .union i;
         }))
 
     -- refused at an edit: the tables are put back
-    back-again : t′ ≡ cond (eqb (c .done) 0) t (filled scale n (undo c (t .cost))) → t′ ≡ start
+    back-again : t′ ≡ cond (eqb (c .done) 0) t (filled scale n (undo c (t .layout))) → t′ ≡ start
     unfolding undone filled
     back-again left = go (eqb (c .done) 0) refl left
       where
         r : Running n start (p .made) c t
         r = p .running
 
-        go : (b : Bool) → eqb (c .done) 0 ≡ b → t′ ≡ cond b t (filled scale n (undo c (t .cost))) → t′ ≡ start
+        go : (b : Bool) → eqb (c .done) 0 ≡ b → t′ ≡ cond b t (filled scale n (undo c (t .layout))) → t′ ≡ start
         go true none same =
             let idle : c .done ≡ 0 = eqb-true (c .done) 0 none in
-            let first : t .cost ≡ start .cost = rw idle at (r .back) in
-            same ∙ r .now ∙ ap (filled scale n) (sym (ap (λ x. x .cost) (r .now)) ∙ first) ∙ r .begins
+            let first : t .layout ≡ start .layout = rw idle at (r .back) in
+            same ∙ r .now ∙ ap (filled scale n) (sym (ap (λ x. x .layout) (r .now)) ∙ first) ∙ r .begins
         go false some same = same ∙ ap (filled scale n) (r .back) ∙ r .begins
 
     ends-refused : accepted (c .refusal) ≡ false → Done call start t′ (ofList a)
@@ -151,8 +153,8 @@ module _ (n : ℕ) (list : List Edit) (start : Tables) (edits : List Edit) (c : 
     ends-refused shut =
         let (said, left) = end .refused shut in
         let closed = ap accepted (sym told) ∙ shut in
-        refused-at (judged n 1 list (start .cost) .refusal) (judged n 1 list (start .cost) .place) (list-refusal n list start ∙ rw f) closed
-        (rw (edit-tells n 1 list (start .cost) closed)) (back-again left) (ap ofList said ∙ λ i. refusedAt (told i) (place i) [])
+        refused-at (judged n 1 list (start .layout) .refusal) (judged n 1 list (start .layout) .place) (list-refusal n list start ∙ rw f) closed
+        (rw (edit-tells n 1 list (start .layout) closed)) (back-again left) (ap ofList said ∙ λ i. refusedAt (told i) (place i) [])
 
   pub list-done : Done call start t′ (ofList a)
   list-done = go (accepted first) refl (accepted (c .refusal)) refl

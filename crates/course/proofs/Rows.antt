@@ -1,14 +1,13 @@
 -- Rows worked out over all links beside rows that are right already: the tables are those of the hall. Assumes nothing.
-use Prim.Native.Nat.{ℕ, _*_, _<_, _≤_}
+use Prim.Native.Nat.{ℕ, _<_, _≤_}
 use mathlib.Core.Path.{_≡_, refl, sym, _∙_}
 use mathlib.Core.Bool.{Bool, true}
 use mathlib.Core.List.{List}
-use lib.ListN.{length}
 use Rattle.routes.specs.Route.{has, leastTime, ways, share}
 use Rattle.routes.proofs.Bits.{split}
 use Rattle.routes.proofs.Rows.{listTo-cong}
-use Rattle.links.specs.Promise.{masked, AllLinks}
-use Rattle.book.specs.Hall.{Tables, mostWays, scale, table, entry, filled, uncrowded}
+use Rattle.links.specs.Promise.{maskedFrom, AllLinks}
+use Rattle.book.specs.Hall.{Tables, mostWays, scale, table, entry, filled, uncrowded, Layout, costsIn}
 use Rattle.book.specs.Contract.{tables}
 use Rattle.book.proofs.Tables.{entry-table}
 use Rattle.book.proofs.Sets.{SameRow}
@@ -17,6 +16,7 @@ use Rattle.cells.specs.Promise.{summed}
 use Rattle.cells.proofs.Sums.{summed-whole}
 use Rattle.tables.specs.Promise.{part, parts, rowOf, Worked, FilledRows}
 use Rattle.tables.proofs.Parts.{part-table}
+use Rattle.book.proofs.Small.{Workable}
 use Rattle.tables.proofs.Masked.{all-rows, same-rowOf}
 use Rattle.tables.proofs.Worked.{worked-of, worked-parts, free-rows, worked-scores}
 use Rattle.course.specs.Promise.{RightOutside}
@@ -28,42 +28,42 @@ same-part n f g s l most h =
     part-table n f s l most ∙ listTo-cong n (λ x k. sym (entry-table n f s x l k) ∙ h x k ∙ entry-table n g s x l k) ∙ sym (part-table n g s l most)
 
 -- a row of one hall that is the row of another
-pub row-of : (n : ℕ) (cost now : List ℕ) (s : ℕ) → s < n → n ≤ 64 → uncrowded mostWays n cost ≡ true →
-    SameRow n (filled scale n cost) (filled scale n now) s →
-    let t : Tables = filled scale n now in parts n (t .time) (t .ways) (t .share) s ≡ rowOf mostWays scale (entry n cost) n s
+pub row-of : (n : ℕ) (lay now : Layout) (s : ℕ) → s < n → n ≤ 64 → uncrowded mostWays n lay ≡ true →
+    SameRow n (filled scale n lay) (filled scale n now) s →
+    let t : Tables = filled scale n now in parts n (t .time) (t .ways) (t .share) s ≡ rowOf mostWays scale (costsIn n lay s) n s
 unfolding filled
-row-of n cost now s l most few h =
+row-of n lay now s l most few h =
     (λ i. record {
-      time = same-part n (leastTime (entry n now) n) (leastTime (entry n cost) n) s l most (λ x k. sym (h .time x k)) i;
-      ways = same-part n (ways (entry n now) n) (ways (entry n cost) n) s l most (λ x k. sym (h .ways x k)) i;
-      share = same-part n (λ s. share (entry n now) n s scale) (λ s. share (entry n cost) n s scale) s l most (λ x k. sym (h .share x k)) i;
+      time = same-part n (λ s. leastTime (costsIn n now s) n s) (λ s. leastTime (costsIn n lay s) n s) s l most (λ x k. sym (h .time x k)) i;
+      ways = same-part n (λ s. ways (costsIn n now s) n s) (λ s. ways (costsIn n lay s) n s) s l most (λ x k. sym (h .ways x k)) i;
+      share = same-part n (λ s. share (costsIn n now s) n s scale) (λ s. share (costsIn n lay s) n s scale) s l most (λ x k. sym (h .share x k)) i;
     }) ∙
-    worked-parts mostWays scale n cost _ _ _ (free-rows mostWays n cost few) most (record { times = refl; counts = refl; shares = refl }) s l
+    worked-parts mostWays scale n lay _ _ _ (free-rows mostWays n lay few) most (record { times = refl; counts = refl; shares = refl }) s l
+
+-- rows can be worked out over such tables
+pub workable-of : {n set : ℕ} {t : Tables} → RightOutside n set t → Workable n (t .layout)
+workable-of {n} {set} {t} b =
+    let l = lengths n t (b .lengths) in
+    record { most = stops n (b .size) .1; square = l .costs; long = l .passings; valid = b .valid; passable = b .passable }
 
 -- the rows of a set are worked out, and the others were right
-module _ (n set : ℕ) (t : Tables) (b : RightOutside n set t) (out : List ℕ) (links : AllLinks n (t .cost) out) (times′ counts′ shares′ : List ℕ) (crowded : Bool)
-    (done : FilledRows mostWays scale (masked n (t .cost) out) n set (t .time) (t .ways) (t .share) times′ counts′ shares′ crowded) where
-  most : n ≤ 64
-  most = stops n (b .size) .1
-
-  square : length (t .cost) ≡ n * n
-  square = lengths n t (b .lengths) .costs
-
-  pub rows-worked : Worked scale n (t .cost) times′ counts′ shares′
-  rows-worked = worked-of mostWays scale n (t .cost) times′ counts′ shares′ (free-rows mostWays n (t .cost) (b .few)) (done .lengths) rows
+module _ (n set : ℕ) (t : Tables) (b : RightOutside n set t) (out : List ℕ) (links : AllLinks n (t .layout .cost) out) (times′ counts′ shares′ : List ℕ) (crowded : Bool)
+    (done : FilledRows mostWays scale (λ s. maskedFrom n s (t .layout .cost) (t .layout .passing) out) n set (t .time) (t .ways) (t .share) times′ counts′ shares′ crowded) where
+  pub rows-worked : Worked scale n (t .layout) times′ counts′ shares′
+  rows-worked = worked-of mostWays scale n (t .layout) times′ counts′ shares′ (free-rows mostWays n (t .layout) (b .few)) (done .lengths) rows
     where
-      rows : (s : ℕ) → s < n → parts n times′ counts′ shares′ s ≡ rowOf mostWays scale (entry n (t .cost)) n s
+      rows : (s : ℕ) → s < n → parts n times′ counts′ shares′ s ≡ rowOf mostWays scale (costsIn n (t .layout) s) n s
       rows s l = split (has set s)
-          (λ e. done .rows s ∙ rw e (same-rowOf mostWays scale (masked n (t .cost) out) (entry n (t .cost)) n s (all-rows n (t .cost) most square (b .valid) out links s l)))
+          (λ e. done .rows s ∙ rw e (same-rowOf mostWays scale (maskedFrom n s (t .layout .cost) (t .layout .passing) out) (costsIn n (t .layout) s) n s (all-rows (workable-of b) out links s l)))
           (λ e. done .rows s ∙ rw e (b .rows s l e))
 
   -- and their scores are summed
-  pub put-filled : (score′ : List ℕ) → score′ ≡ summed n n shares′ (t .score) → tables (t .cost) times′ counts′ shares′ score′ ≡ filled scale n (t .cost)
+  pub put-filled : (score′ : List ℕ) → score′ ≡ summed n n shares′ (t .score) → tables (t .layout .cost) (t .layout .passing) times′ counts′ shares′ score′ ≡ filled scale n (t .layout)
   unfolding filled
   put-filled score′ sums = λ i. record {
-    cost = t .cost;
+    layout = t .layout;
     time = rows-worked .times i;
     ways = rows-worked .counts i;
     share = rows-worked .shares i;
-    score = (sums ∙ summed-whole n shares′ (t .score) (lengths n t (b .lengths) .scores) ∙ worked-scores scale n (t .cost) shares′ (rows-worked .shares)) i;
+    score = (sums ∙ summed-whole n shares′ (t .score) (lengths n t (b .lengths) .scores) ∙ worked-scores scale n (t .layout) shares′ (rows-worked .shares)) i;
   }

@@ -10,23 +10,23 @@ use lib.Bits.{bitOr}
 use lib.Dec.{leb}
 use lib.ListN.{length, getD, set, length-set, length-append}
 use lib.Seq.{getD-set-same, getD-set-other}
-use borrow.Author.Tests.{eq-eqb, leb-true}
+use borrow.Author.Tests.{leb-true}
 use Rattle.routes.specs.Route.{setOf}
 use Rattle.routes.proofs.Booleans.{both}
 use Rattle.links.proofs.Flat.{flat-lt}
-use Rattle.book.specs.Hall.{Tables, mostWays, mostEdits, scale, entry, filled, sized, right, touched}
-use Rattle.book.specs.Call.{Call, edit, accepted, withEdit, editRefusal, run, withEdits, touchedBy, Verdict, judged, rule, refusal, after, answer, names, Done}
+use Rattle.book.specs.Hall.{Tables, mostWays, mostEdits, scale, entry, filled, sized, right, touched, Layout, laid, validPassing}
+use Rattle.book.specs.Call.{Call, edit, accepted, withEdit, editRefusal, run, withEdits, touchedBy, Verdict, judged, rule, refusal, after, answer, names, Done, costSet}
 use Rattle.book.specs.Contract.{ofEdit, Audited}
 use Rattle.book.specs.declared.Edit.{Edit}
 use Rattle.book.specs.declared.EditAnswer.{EditAnswer}
 use Rattle.book.specs.declared.Refusal.{Refusal}
 use Rattle.book.specs.declared.Refusal.the-variants.{Accepted, ListTooLong}
-use Rattle.book.proofs.Filled.{sized-filled, right-filled, right-true}
+use Rattle.book.proofs.Filled.{right-true}
 use Rattle.book.proofs.Sizes.{stops}
 use Rattle.book.proofs.Passed.{need-true, accepted-only, chain-true, Permitted, permitted}
 use Rattle.book.proofs.Answers.{done-refusal}
 use Rattle.book.proofs.Doors.{behind-audit}
-use Rattle.book.proofs.Steps.{Held, held-right, held-list}
+use Rattle.book.proofs.Steps.{Held, held-right, held-list, held-audited}
 use Rattle.course.specs.declared.Course.{Course}
 use Rattle.course.specs.Promise.{admits, begun, noted, Turned, undo, undone}
 use Rattle.course.proofs.Unions.{setOf-or, setOf-none}
@@ -35,15 +35,15 @@ use Rattle.course.proofs.Verdicts.{withEdits-more, touchedBy-more, judg
 
 -- these edits were made, and no other: the tables are theirs, the course has what they touched, and what it keeps takes them back
 pub record Running (n : ℕ) (start : Tables) (made : List Edit) (c : Course) (t : Tables) : Type 0 where
-  pub held : Held n (start .cost)
-  pub begins : filled scale n (start .cost) ≡ start
+  pub held : Held n (start .layout)
+  pub begins : filled scale n (start .layout) ≡ start
   pub many : c .done ≡ length made
-  pub taken : accepted (judged n 1 made (start .cost) .refusal) ≡ true
-  pub now : t ≡ filled scale n (withEdits n made (start .cost))
-  pub union : c .touched ≡ setOf n (touchedBy n made (start .cost))
+  pub taken : accepted (judged n 1 made (start .layout) .refusal) ≡ true
+  pub now : t ≡ filled scale n (withEdits n made (start .layout))
+  pub union : c .touched ≡ setOf n (touchedBy n made (start .layout))
   pub long : (length (c .spots) ≡ mostEdits) × (length (c .costs) ≡ mostEdits)
   pub inside : (i : ℕ) → i < c .done → getD (c .spots) i 0 < n * n
-  pub back : undo c (t .cost) ≡ start .cost
+  pub back : undo c (t .layout) ≡ start .layout
 
 -- some of these edits were made: all, unless one was refused
 pub record Part (n : ℕ) (start : Tables) (edits : List Edit) (c : Course) (t : Tables) : Type 0 where
@@ -56,7 +56,7 @@ pub record Part (n : ℕ) (start : Tables) (edits : List Edit) (c : Course) (t :
 abbrev pub verdict : (n long : ℕ) → Tables → List Edit → Verdict
 verdict n long start edits =
     let first : Refusal = admits n long start in
-    cond (accepted first) (judged n 1 edits (start .cost)) (record { refusal = first; place = 0 })
+    cond (accepted first) (judged n 1 edits (start .layout)) (record { refusal = first; place = 0 })
 
 -- where the list stands then
 pub record Standing (n long : ℕ) (start : Tables) (edits : List Edit) (c : Course) (t : Tables) : Type 0 where
@@ -64,23 +64,16 @@ pub record Standing (n long : ℕ) (start : Tables) (edits : List Edit) (c : Cou
   pub shut : accepted (admits n long start) ≡ false → (t ≡ start) × (c .done ≡ 0)
   pub runs : accepted (admits n long start) ≡ true → Part n start edits c t
 
--- the tables of a hall pass the audit
-held-audited : (n : ℕ) (cost : List ℕ) → Held n cost → Audited n (filled scale n cost)
-held-audited n cost h = record {
-  inside = record { size = h .size; lengths = sized-filled scale n n cost (h .square) ∙ eq-eqb n n refl };
-  sound = right-filled scale mostWays n cost (h .valid) (h .few);
-}
-
 pub running-audited : (n : ℕ) (start : Tables) (made : List Edit) (c : Course) (t : Tables) → Running n start made c t → Audited n t
 running-audited n start made c t r =
-    rw (r .now) (held-audited n (withEdits n made (start .cost)) (held-list n 1 made (start .cost) (r .held) (r .taken)))
+    rw (r .now) (held-audited n (withEdits n made (start .layout)) (held-list n 1 made (start .layout) (r .held) (r .taken)))
 
 -- a list that is let in: its tables are right, and it is not too long
 pub admitted : (n long : ℕ) (t : Tables) → accepted (admits n long t) ≡ true → Audited n t × (long ≤ mostEdits)
 admitted n long t ok =
-    let (size, lengths, sound, rest) = chain-true n (sized n t) (right scale mostWays n t) _ ok in
+    let (size, lengths, passable, sound, rest) = chain-true n (sized n t) (validPassing n (t .layout .passing)) (right scale mostWays n t) _ ok in
     let (short, done) = need-true (leb long mostEdits) ListTooLong Accepted refl rest in
-    (record { inside = record { size = size; lengths = lengths }; sound = sound }, leb-true long mostEdits short)
+    (record { inside = record { size = size; lengths = lengths; passable = passable }; sound = sound }, leb-true long mostEdits short)
 
 -- before the first edit
 begun-so : (n long : ℕ) (t : Tables) (b : Bool) → accepted (admits n long t) ≡ b →
@@ -95,7 +88,7 @@ running-begins n long t ok =
     let a = admitted n long t ok .0 in
     let filling = right-true scale mostWays n t (a .sound) .2 in
     record {
-      held = held-right n t (a .inside .size) (a .inside .lengths) (a .sound);
+      held = held-right n t (a .inside .size) (a .inside .lengths) (a .inside .passable) (a .sound);
       begins = filling;
       many = refl;
       taken = refl;
@@ -119,9 +112,9 @@ module _ (n : ℕ) (e : Edit) (t t′ : Tables) (a : EditAnswer) (d : Done (reco
   abbrev call : Call
   call = record { n = n; ask = edit e }
 
-  edit-judged : Audited n t → a .refusal ≡ editRefusal n e (t .cost)
+  edit-judged : Audited n t → a .refusal ≡ editRefusal n e (t .layout)
   unfolding rule
-  edit-judged sound = done-refusal call t d ∙ behind-audit call t (λ s. refl) refl sound
+  edit-judged sound = done-refusal call t d ∙ behind-audit call t (λ s. refl) refl refl sound
 
   accepts : accepted (refusal call t) ≡ accepted (a .refusal)
   accepts = ap accepted (sym (done-refusal call t d))
@@ -130,14 +123,14 @@ module _ (n : ℕ) (e : Edit) (t t′ : Tables) (a : EditAnswer) (d : Done (reco
   pub edit-inside : Audited n t → accepted (a .refusal) ≡ true → (e .u < n) × (e .v < n) × (n ≤ 64)
   unfolding rule
   edit-inside sound ok =
-      let p = permitted n e (t .cost) (ap accepted (sym (edit-judged sound)) ∙ ok) in
+      let p = permitted n e (t .layout) (ap accepted (sym (edit-judged sound)) ∙ ok) in
       (p .from, p .to, stops n (sound .inside .size) .1)
 
-  edit-left : accepted (a .refusal) ≡ true → t′ ≡ filled scale n (withEdit n e (t .cost))
+  edit-left : accepted (a .refusal) ≡ true → t′ ≡ filled scale n (withEdit n e (t .layout))
   unfolding after rule
   edit-left ok = d .left ∙ rw (accepts ∙ ok)
 
-  edit-said : accepted (a .refusal) ≡ true → ofEdit a ≡ names n (touched n (t .cost) (withEdit n e (t .cost)) (e .u) (e .v)) (entry n (t .cost) (e .u) (e .v))
+  edit-said : accepted (a .refusal) ≡ true → ofEdit a ≡ names n (touched n (t .layout) (withEdit n e (t .layout)) (e .u) (e .v)) (entry n (t .layout .cost) (e .u) (e .v))
   unfolding answer rule
   edit-said ok = d .answered ∙ rw (accepts ∙ ok)
 
@@ -148,46 +141,46 @@ module _ (n : ℕ) (e : Edit) (t t′ : Tables) (a : EditAnswer) (d : Done (reco
 -- one more edit was made
 module _ (n : ℕ) (start : Tables) (made : List Edit) (c : Course) (t : Tables) (r : Running n start made c t) (e : Edit) (t′ : Tables) (a : EditAnswer)
     (d : Done (record { n = n; ask = edit e }) t t′ (ofEdit a)) where
-  abbrev costs : List ℕ
-  costs = withEdits n made (start .cost)
+  abbrev here : Layout
+  here = withEdits n made (start .layout)
 
-  now-costs : t .cost ≡ costs
+  now-here : t .layout ≡ here
   unfolding filled
-  now-costs = ap (λ t. t .cost) (r .now)
+  now-here = ap (λ t. t .layout) (r .now)
 
   sound : Audited n t
   sound = running-audited n start made c t r
 
-  next-judged : a .refusal ≡ editRefusal n e costs
-  next-judged = edit-judged n e t t′ a d sound ∙ ap (editRefusal n e) now-costs
+  next-judged : a .refusal ≡ editRefusal n e here
+  next-judged = edit-judged n e t t′ a d sound ∙ ap (editRefusal n e) now-here
 
   -- the verdict with it
-  judged-next : judged n 1 (made ++ e ∷ []) (start .cost) ≡
+  judged-next : judged n 1 (made ++ e ∷ []) (start .layout) ≡
       cond (accepted (a .refusal)) (record { refusal = Accepted; place = 0 }) (record { refusal = a .refusal; place = 1 + length made })
   unfolding judged
-  judged-next = judged-more n 1 made e (start .cost) ∙ rw (r .taken, ← next-judged)
+  judged-next = judged-more n 1 made e (start .layout) ∙ rw (r .taken, ← next-judged)
 
   module _ (ok : accepted (a .refusal) ≡ true) (room : length made < mostEdits) where
-    p : Permitted n e (t .cost)
+    p : Permitted n e (t .layout)
     unfolding rule
-    p = permitted n e (t .cost) (ap accepted (sym (edit-judged n e t t′ a d sound)) ∙ ok)
+    p = permitted n e (t .layout) (ap accepted (sym (edit-judged n e t t′ a d sound)) ∙ ok)
 
     abbrev spot : ℕ
     spot = e .u * n + e .v
 
-    left : t′ ≡ filled scale n (withEdit n e (t .cost))
+    left : t′ ≡ filled scale n (withEdit n e (t .layout))
     left = edit-left n e t t′ a d ok
 
-    left-costs : t′ .cost ≡ withEdit n e (t .cost)
+    left-layout : t′ .layout ≡ withEdit n e (t .layout)
     unfolding filled
-    left-costs = ap (λ t. t .cost) left
+    left-layout = ap (λ t. t .layout) left
 
     -- the sources of the edit join the others
-    joined : bitOr (c .touched) (a .touched) ≡ setOf n (touchedBy n (made ++ e ∷ []) (start .cost))
+    joined : bitOr (c .touched) (a .touched) ≡ setOf n (touchedBy n (made ++ e ∷ []) (start .layout))
     joined =
-        ap₂ bitOr (r .union) (ap (λ x. x .touched) (edit-said n e t t′ a d ok) ∙ ap (λ x. setOf n (touched n x (withEdit n e x) (e .u) (e .v))) now-costs) ∙
-        setOf-or n (touchedBy n made (start .cost)) (touched n costs (withEdit n e costs) (e .u) (e .v)) ∙
-        ap (setOf n) (λ i s. sym (touchedBy-more n made e (start .cost) s) i)
+        ap₂ bitOr (r .union) (ap (λ x. x .touched) (edit-said n e t t′ a d ok) ∙ ap (λ x. setOf n (touched n x (withEdit n e x) (e .u) (e .v))) now-here) ∙
+        setOf-or n (touchedBy n made (start .layout)) (touched n here (withEdit n e here) (e .u) (e .v)) ∙
+        ap (setOf n) (λ i s. sym (touchedBy-more n made e (start .layout) s) i)
 
     -- the spots that are kept, with its own
     kept-inside : (i : ℕ) → i < c .done + 1 → getD (set (c .spots) (c .done) spot) i 0 < n * n
@@ -200,11 +193,11 @@ module _ (n : ℕ) (start : Tables) (made : List Edit) (c : Course) (t : Tables)
         room-left = omega (arith, r .many, r .long .0, room)
 
     -- and what is kept takes it back
-    taken-back : undone (c .done + 1) (set (c .spots) (c .done) spot) (set (c .costs) (c .done) (a .before)) (t′ .cost) ≡ start .cost
+    taken-back : laid (undone (c .done + 1) (set (c .spots) (c .done) spot) (set (c .costs) (c .done) (a .before)) (t′ .layout .cost)) (t′ .layout .passing) ≡ start .layout
     taken-back =
-        let before : a .before ≡ getD (t .cost) spot 0 = ap (λ x. x .before) (edit-said n e t t′ a d ok) in
-        rw (left-costs, before)
-        (undone-more (c .done) (c .spots) (c .costs) (t .cost) spot _ (omega (arith, r .many, r .long .0, room)) (omega (arith, r .many, r .long .1, room)) ∙ r .back)
+        let before : a .before ≡ getD (t .layout .cost) spot 0 = ap (λ x. x .before) (edit-said n e t t′ a d ok) in
+        let costs = undone-more (c .done) (c .spots) (c .costs) (t .layout .cost) spot (costSet (e .kind) (e .cost)) (omega (arith, r .many, r .long .0, room)) (omega (arith, r .many, r .long .1, room)) in
+        rw (left-layout, before) (ap (λ x. laid x (t .layout .passing)) costs ∙ r .back)
 
     running-next : Running n start (made ++ e ∷ []) (noted n e c a) t′
     unfolding noted
@@ -213,7 +206,7 @@ module _ (n : ℕ) (start : Tables) (made : List Edit) (c : Course) (t : Tables)
       begins = r .begins;
       many = simp length-append (omega (arith, r .many));
       taken = rw (judged-next, ok);
-      now = left ∙ ap (filled scale n) (ap (withEdit n e) now-costs ∙ sym (withEdits-more n made e (start .cost)));
+      now = left ∙ ap (filled scale n) (ap (withEdit n e) now-here ∙ sym (withEdits-more n made e (start .layout)));
       union = joined;
       long = (length-set (c .spots) _ _ ∙ r .long .0, length-set (c .costs) _ _ ∙ r .long .1);
       inside = kept-inside;
@@ -268,9 +261,9 @@ module _ (n long : ℕ) (start : Tables) (edits : List Edit) (c : Course) (t : T
   turns-refused : accepted first ≡ true → accepted (c .refusal) ≡ false → Standing n long start (edits ++ e ∷ []) c′ t′
   turns-refused f shut =
       let (same, kept) = turn .shut shut in
-      let refused : c .refusal ≡ judged n 1 edits (start .cost) .refusal = rw f at (st .told .0) in
-      let stands : judged n 1 (edits ++ e ∷ []) (start .cost) ≡ judged n 1 edits (start .cost) =
-      judged-more n 1 edits e (start .cost) ∙ rw (ap accepted (sym refused) ∙ shut) in
+      let refused : c .refusal ≡ judged n 1 edits (start .layout) .refusal = rw f at (st .told .0) in
+      let stands : judged n 1 (edits ++ e ∷ []) (start .layout) ≡ judged n 1 edits (start .layout) =
+      judged-more n 1 edits e (start .layout) ∙ rw (ap accepted (sym refused) ∙ shut) in
       let p = st .runs f in
       rw (same, kept) (record {
         told = (rw (f, stands) refused, rw (f, stands) (rw f at (st .told .1)));

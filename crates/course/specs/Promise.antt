@@ -8,9 +8,8 @@ use lib.Count.{ones}
 use lib.Dec.{eqb, ltb, leb}
 use lib.ListN.{length, getD, set, replicate}
 use Rattle.routes.specs.Route.{has}
-use Rattle.book.specs.Hall.{Tables, mostStops, mostWays, mostEdits, scale, upTo, entry, filled, sized, validCosts, uncrowded, right}
-use Rattle.book.specs.Call.{accepted, need, chain, edit, Done}
-use Rattle.book.specs.Book.{withCost}
+use Rattle.book.specs.Hall.{Layout, laid, Tables, mostStops, mostWays, mostEdits, scale, upTo, costsIn, filled, sized, validCosts, validPassing, uncrowded, right}
+use Rattle.book.specs.Call.{accepted, need, chain, edit, withLayout, Done}
 use Rattle.book.specs.Contract.{ofEdit, Audited}
 use Rattle.book.specs.declared.Edit.{Edit}
 use Rattle.book.specs.declared.EditAnswer.{EditAnswer}
@@ -20,9 +19,9 @@ use Rattle.book.specs.declared.Refusal.the-variants.{Accepted, ListTooLong}
 use Rattle.tables.specs.Promise.{parts, rowOf}
 use Rattle.course.specs.declared.Course.{Course}
 
--- tests 1, 2, 3 and 12: what refuses a list of this length before its first edit
+-- tests 1, 2, 13, 3 and 12: what refuses a list of this length before its first edit
 abbrev pub admits : (n length : ℕ) → Tables → Refusal
-admits n length t = chain n (sized n t) (right scale mostWays n t) (need (leb length mostEdits) ListTooLong Accepted)
+admits n length t = chain n (sized n t) (validPassing n (t .layout .passing)) (right scale mostWays n t) (need (leb length mostEdits) ListTooLong Accepted)
 
 -- the course of a list before its first edit
 abbrev pub begun : Refusal → Course
@@ -67,23 +66,24 @@ unfoldable pub undone : ℕ → (spots costs cost : List ℕ) → List ℕ
 undone zero spots costs cost = cost
 undone (suc k) spots costs cost = undone k spots costs (set cost (getD spots k 0) (getD costs k 0))
 
-abbrev pub undo : Course → List ℕ → List ℕ
-undo c cost = undone (c .done) (c .spots) (c .costs) cost
+abbrev pub undo : Course → Layout → Layout
+undo c l = laid (undone (c .done) (c .spots) (c .costs) (l .cost)) (l .passing)
 
 -- tables with valid costs and no crowded pair, whose rows outside a set are those of their hall
 pub record RightOutside (n sources : ℕ) (t : Tables) : Type 0 where
   pub size : upTo mostStops n ≡ true
   pub lengths : sized n t ≡ true
-  pub valid : validCosts n (t .cost) ≡ true
-  pub few : uncrowded mostWays n (t .cost) ≡ true
+  pub valid : validCosts n (t .layout .cost) ≡ true
+  pub passable : validPassing n (t .layout .passing) ≡ true
+  pub few : uncrowded mostWays n (t .layout) ≡ true
   pub below : (s : ℕ) → has sources s ≡ true → s < n
-  pub rows : (s : ℕ) → s < n → has sources s ≡ false → parts n (t .time) (t .ways) (t .share) s ≡ rowOf mostWays scale (entry n (t .cost)) n s
+  pub rows : (s : ℕ) → s < n → has sources s ≡ false → parts n (t .time) (t .ways) (t .share) s ≡ rowOf mostWays scale (costsIn n (t .layout) s) n s
 
 -- what putting back asks: the kept spots lie inside the cost table, and with the kept costs the tables are as said
 pub record Undoes (n : ℕ) (c : Course) (t : Tables) : Type 0 where
   pub kept : c .done ≤ mostEdits
-  pub inside : (i : ℕ) → i < c .done → getD (c .spots) i 0 < length (t .cost)
-  pub outside : RightOutside n (c .touched) (withCost (undo c (t .cost)) t)
+  pub inside : (i : ℕ) → i < c .done → getD (c .spots) i 0 < length (t .layout .cost)
+  pub outside : RightOutside n (c .touched) (withLayout (undo c (t .layout)) t)
 
 -- what the end of a list asks: a refused one of which edits were made can be put back
 abbrev pub Closing : ℕ → Course → Tables → Type 0
@@ -93,4 +93,4 @@ Closing n c t = accepted (c .refusal) ≡ false → 0 < c .done → Undoes n c t
 pub record Finished (n : ℕ) (c : Course) (a : ListAnswer) (t t′ : Tables) : Type 0 where
   pub taken : accepted (c .refusal) ≡ true → (a ≡ record { refusal = c .refusal; place = 0; rows = ones (c .touched); touched = c .touched }) × (t′ ≡ t)
   pub refused : accepted (c .refusal) ≡ false → (a ≡ record { refusal = c .refusal; place = c .place; rows = 0; touched = 0 }) ×
-      (t′ ≡ cond (eqb (c .done) 0) t (filled scale n (undo c (t .cost))))
+      (t′ ≡ cond (eqb (c .done) 0) t (filled scale n (undo c (t .layout))))

@@ -8,13 +8,13 @@ ghost use mathlib.Core.Path.{_≡_};
 ghost use Prim.Native.Nat.{ℕ, _<_, _≤_};
 ghost use lib.ListN.{length, getD};
 ghost use Rattle.book.specs.Hall.{mostEdits, scale, filled};
-ghost use Rattle.book.specs.Contract.{these, left, leftBeside};
-ghost use Rattle.course.specs.Promise.{undo, RightOutside, Undoes};
+ghost use Rattle.book.specs.Contract.{these, left, leftBeside, foundLayout};
+ghost use Rattle.course.specs.Promise.{undone, undo, RightOutside, Undoes};
 
 // The costs before the edits.
 fn put_costs(course: Course, cost: &mut [u32])
     requires { ⌜ (course .done ≤ mostEdits) × ((i : ℕ) → i < course .done → getD (course .spots) i 0 < length (now cost)) ⌝ }
-    ensures { λ r. ⌜ now (cost .exit) ≡ undo course (now (cost .entry)) ⌝ }
+    ensures { λ r. ⌜ now (cost .exit) ≡ undone (course .done) (course .spots) (course .costs) (now (cost .entry)) ⌝ }
 {
     let mut k = course.done;
     let spots = course.spots;
@@ -31,13 +31,14 @@ fn put_rows(
     n: usize,
     set: u64,
     cost: &[u32],
+    passing: &[u32],
     time: &mut [u32],
     ways: &mut [u32],
     share: &mut [u64],
     score: &mut [u64],
 )
-    requires { ⌜ RightOutside n set (these cost time ways share score) ⌝ }
-    ensures { λ r. ⌜ leftBeside cost time ways share score ≡ filled scale n (now (cost .entry)) ⌝ }
+    requires { ⌜ RightOutside n set (these cost passing time ways share score) ⌝ }
+    ensures { λ r. ⌜ leftBeside cost passing time ways share score ≡ filled scale n (foundLayout cost passing) ⌝ }
 {
     let mut out = [0u64; 64];
     all_links(n, cost, &mut out);
@@ -47,6 +48,7 @@ fn put_rows(
         n,
         set,
         cost,
+        passing,
         &out,
         time,
         ways,
@@ -60,15 +62,16 @@ pub fn put_back(
     n: usize,
     course: Course,
     cost: &mut [u32],
+    passing: &[u32],
     time: &mut [u32],
     ways: &mut [u32],
     share: &mut [u64],
     score: &mut [u64],
 )
-    requires { ⌜ Undoes n course (these cost time ways share score) ⌝ }
-    ensures { λ r. ⌜ left cost time ways share score ≡ filled scale n (undo course (now (cost .entry))) ⌝ }
+    requires { ⌜ Undoes n course (these cost passing time ways share score) ⌝ }
+    ensures { λ r. ⌜ left cost passing time ways share score ≡ filled scale n (undo course (foundLayout cost passing)) ⌝ }
 {
     put_costs(course, cost);
     let set = course.touched;
-    put_rows(n, set, cost, time, ways, share, score);
+    put_rows(n, set, cost, passing, time, ways, share, score);
 }

@@ -8,19 +8,20 @@ ghost use mathlib.Core.Path.{_≡_};
 ghost use Rattle.book.specs.Contract.{found, left};
 ghost use Rattle.course.specs.Promise.{admits, begun, turnsOf};
 
-// Tests 1, 2, 3 and 12.
+// Tests 1, 2, 13, 3 and 12.
 fn admit(
     n: u64,
     length: usize,
     cost: &[u32],
+    passing: &[u32],
     time: &[u32],
     ways: &[u32],
     share: &[u64],
     score: &[u64],
 ) -> Refusal
-    ensures { λ r. ⌜ r ≡ admits n length (found cost time ways share score) ⌝ }
+    ensures { λ r. ⌜ r ≡ admits n length (found cost passing time ways share score) ⌝ }
 {
-    let verdict = audit(n, cost, time, ways, share, score);
+    let verdict = audit(n, cost, passing, time, ways, share, score);
     if !passes(verdict) {
         return verdict;
     }
@@ -36,14 +37,15 @@ pub fn begin(
     n: u64,
     length: usize,
     cost: &mut [u32],
+    passing: &[u32],
     time: &mut [u32],
     ways: &mut [u32],
     share: &mut [u64],
     score: &mut [u64],
 ) -> Course
-    ensures { λ r. ⌜ (r ≡ begun (admits n length (found cost time ways share score))) × (left cost time ways share score ≡ found cost time ways share score) ⌝ }
+    ensures { λ r. ⌜ (r ≡ begun (admits n length (found cost passing time ways share score))) × (left cost passing time ways share score ≡ found cost passing time ways share score) ⌝ }
 {
-    let refusal = admit(n, length, cost, time, ways, share, score);
+    let refusal = admit(n, length, cost, passing, time, ways, share, score);
     let spots = [0u32; 32];
     let costs = [0u32; 32];
     Course {

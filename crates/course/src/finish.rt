@@ -10,13 +10,14 @@ pub fn finish(
     n: u64,
     course: Course,
     cost: &mut [u32],
+    passing: &[u32],
     time: &mut [u32],
     ways: &mut [u32],
     share: &mut [u64],
     score: &mut [u64],
 ) -> ListAnswer
-    requires { ⌜ Closing n course (these cost time ways share score) ⌝ }
-    ensures { λ r. ⌜ Finished n course r (found cost time ways share score) (left cost time ways share score) ⌝ }
+    requires { ⌜ Closing n course (these cost passing time ways share score) ⌝ }
+    ensures { λ r. ⌜ Finished n course r (found cost passing time ways share score) (left cost passing time ways share score) ⌝ }
 {
     let refusal = course.refusal;
     let touched = course.touched;
@@ -29,7 +30,7 @@ pub fn finish(
         };
     }
     if course.done > 0 {
-        put_back(n as usize, course, cost, time, ways, share, score);
+        put_back(n as usize, course, cost, passing, time, ways, share, score);
     }
     ListAnswer {
         refusal,

@@ -49,18 +49,19 @@ pub fn turn(
     e: Edit,
     course: Course,
     cost: &mut [u32],
+    passing: &[u32],
     time: &mut [u32],
     ways: &mut [u32],
     share: &mut [u64],
     score: &mut [u64],
 ) -> Course
-    requires { ⌜ Open n course (these cost time ways share score) ⌝ }
-    ensures { λ r. ⌜ Turned n e course r (found cost time ways share score) (left cost time ways share score) ⌝ }
+    requires { ⌜ Open n course (these cost passing time ways share score) ⌝ }
+    ensures { λ r. ⌜ Turned n e course r (found cost passing time ways share score) (left cost passing time ways share score) ⌝ }
 {
     let refusal = course.refusal;
     if !passes(refusal) {
         return course;
     }
-    let answer = edit_audited(n, e, cost, time, ways, share, score);
+    let answer = edit_audited(n, e, cost, passing, time, ways, share, score);
     note(n, e, course, answer)
 }

@@ -44,22 +44,24 @@ module _ (n : ℕ) (e : Edit) (t : Tables) (a : Audited n t) where
   call = record { n = n; ask = edit e }
 
   abbrev tests : Refusal → Refusal
-  tests = editTests n e (t .cost)
+  tests = editTests n e (t .layout .cost)
 
   abbrev new : ℕ
   new = costSet (e .kind) (e .cost)
 
   -- what an edit with good arguments asks of the inner edit
-  pub change-of : accepted (tests Accepted) ≡ true → Change mostWays scale n (e .u) (e .v) new (t .cost) (t .time) (t .ways) (t .share)
+  pub change-of : accepted (tests Accepted) ≡ true → Change mostWays scale n (e .u) (e .v) new (t .layout) (t .time) (t .ways) (t .share)
   change-of ok =
       let (pair, ok₁) = need-true (validPair n (e .u) (e .v)) BadStop _ refl ok in
-      let (fits, differs, ok₂) = cost-tests (e .kind) (e .cost) (entry n (t .cost) (e .u) (e .v)) Accepted ok₁ in
+      let (fits, differs, ok₂) = cost-tests (e .kind) (e .cost) (entry n (t .layout .cost) (e .u) (e .v)) Accepted ok₁ in
       let (from, to, apart) = pair-true n (e .u) (e .v) pair in
       let (valid, few, filling) = right-true scale mostWays n t (a .sound) in
       record {
         most = stops n (a .inside .size) .1;
         square = lengths n t (a .inside .lengths) .costs;
+        long = lengths n t (a .inside .lengths) .passings;
         valid = valid;
+        passable = a .inside .passable;
         uncrowded = few;
         worked = record { times = ap (λ x. x .time) (sym filling); counts = ap (λ x. x .ways) (sym filling); shares = ap (λ x. x .share) (sym filling) };
         from = from;
@@ -69,11 +71,11 @@ module _ (n : ℕ) (e : Edit) (t : Tables) (a : Audited n t) where
         differs = differs;
       }
 
-  refusal-edit : refusal call t ≡ cond (accepted (tests Accepted)) (waysTest n (withEdit n e (t .cost))) (tests Accepted)
+  refusal-edit : refusal call t ≡ cond (accepted (tests Accepted)) (waysTest n (withEdit n e (t .layout))) (tests Accepted)
   unfolding rule
   refusal-edit =
-      behind-audit call t (λ s. refl) refl a ∙
-      chained (validPair n (e .u) (e .v)) BadStop refl (cost-chain (e .kind) (e .cost) (entry n (t .cost) (e .u) (e .v))) .follows
+      behind-audit call t (λ s. refl) refl refl a ∙
+      chained (validPair n (e .u) (e .v)) BadStop refl (cost-chain (e .kind) (e .cost) (entry n (t .layout .cost) (e .u) (e .v))) .follows
 
   pub edit-refused : (r : Refusal) → r ≡ tests Accepted → accepted r ≡ false → Done call t t (ofRefusal r)
   unfolding rule
@@ -82,11 +84,11 @@ module _ (n : ℕ) (e : Edit) (t : Tables) (a : Audited n t) where
   -- the inner edit does what the call says
   pub edit-done : accepted (tests Accepted) ≡ true → {t′ : Tables} {x : Answer} → Applied mostWays scale n (e .u) (e .v) new t t′ x → Done call t t′ x
   unfolding after answer rule
-  edit-done ok {t′} {x} r = go (uncrowded mostWays n (withEdit n e (t .cost))) refl
+  edit-done ok {t′} {x} r = go (uncrowded mostWays n (withEdit n e (t .layout))) refl
     where
-      verdict : refusal call t ≡ waysTest n (withEdit n e (t .cost))
+      verdict : refusal call t ≡ waysTest n (withEdit n e (t .layout))
       verdict = refusal-edit ∙ rw ok
 
-      go : (b : Bool) → uncrowded mostWays n (withEdit n e (t .cost)) ≡ b → Done call t t′ x
+      go : (b : Bool) → uncrowded mostWays n (withEdit n e (t .layout)) ≡ b → Done call t t′ x
       go true f = record { left = r .left ∙ rw (verdict, f); answered = r .answered ∙ rw (verdict, f) }
       go false f = rw (r .left, r .answered, f) (refused-done call t TooManyWays (verdict ∙ rw f) refl)

@@ -9,7 +9,7 @@ use cells::scores;
 ghost use mathlib.Core.Path.{_≡_};
 ghost use lib.ListN.{length};
 ghost use Rattle.book.specs.Call.{edit, Done};
-ghost use Rattle.book.specs.Contract.{these, found, left, ofRefusal, ofEdit, Audited};
+ghost use Rattle.book.specs.Contract.{thisLayout, these, found, left, ofRefusal, ofEdit, Audited};
 ghost use Rattle.tables.specs.Promise.{Measure};
 ghost use Rattle.changes.specs.Promise.{Change, Applied};
 
@@ -33,19 +33,33 @@ fn apply(
     v: usize,
     new: u32,
     cost: &mut [u32],
+    passing: &[u32],
     time: &mut [u32],
     ways: &mut [u32],
     share: &mut [u64],
     score: &mut [u64],
 ) -> EditAnswer
     requires { ⌜ Measure limit scale ⌝ }
-    requires { ⌜ Change limit scale n u v new (now cost) (now time) (now ways) (now share) ⌝ }
+    requires { ⌜ Change limit scale n u v new (thisLayout cost passing) (now time) (now ways) (now share) ⌝ }
     requires { ⌜ length (now score) ≡ n ⌝ }
-    ensures { λ r. ⌜ Applied limit scale n u v new (found cost time ways share score) (left cost time ways share score) (ofEdit r) ⌝ }
+    ensures { λ r. ⌜ Applied limit scale n u v new (found cost passing time ways share score) (left cost passing time ways share score) (ofEdit r) ⌝ }
 {
     let before = places::read_entry(n, u, v, cost);
-    let touched = touch::touched_set(n, u, v, new, cost, time);
-    if !rework::try_cost(limit, scale, n, u, v, new, touched, cost, time, ways, share) {
+    let touched = touch::touched_set(n, u, v, new, cost, passing, time);
+    if !rework::try_cost(
+        limit,
+        scale,
+        n,
+        u,
+        v,
+        new,
+        touched,
+        cost,
+        passing,
+        time,
+        ways,
+        share,
+    ) {
         return refused(Refusal::TooManyWays);
     }
     scores::sum_scores(n, share, score);
@@ -62,13 +76,14 @@ pub fn edit_audited(
     n: u64,
     e: Edit,
     cost: &mut [u32],
+    passing: &[u32],
     time: &mut [u32],
     ways: &mut [u32],
     share: &mut [u64],
     score: &mut [u64],
 ) -> EditAnswer
-    requires { ⌜ Audited n (these cost time ways share score) ⌝ }
-    ensures { λ r. ⌜ Done (record { n = n; ask = edit e }) (found cost time ways share score) (left cost time ways share score) (ofEdit r) ⌝ }
+    requires { ⌜ Audited n (these cost passing time ways share score) ⌝ }
+    ensures { λ r. ⌜ Done (record { n = n; ask = edit e }) (found cost passing time ways share score) (left cost passing time ways share score) (ofEdit r) ⌝ }
 {
     let verdict = permit::permit(n, e, cost);
     if !passes(verdict) {
@@ -83,6 +98,7 @@ pub fn edit_audited(
         e.v as usize,
         new,
         cost,
+        passing,
         time,
         ways,
         share,

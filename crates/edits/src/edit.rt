@@ -12,16 +12,17 @@ pub fn edit(
     n: u64,
     e: Edit,
     cost: &mut [u32],
+    passing: &[u32],
     time: &mut [u32],
     ways: &mut [u32],
     share: &mut [u64],
     score: &mut [u64],
 ) -> EditAnswer
-    ensures { λ r. ⌜ Done (record { n = n; ask = edit e }) (found cost time ways share score) (left cost time ways share score) (ofEdit r) ⌝ }
+    ensures { λ r. ⌜ Done (record { n = n; ask = edit e }) (found cost passing time ways share score) (left cost passing time ways share score) (ofEdit r) ⌝ }
 {
-    let verdict = audit(n, cost, time, ways, share, score);
+    let verdict = audit(n, cost, passing, time, ways, share, score);
     if !passes(verdict) {
         return refused(verdict);
     }
-    edit_audited(n, e, cost, time, ways, share, score)
+    edit_audited(n, e, cost, passing, time, ways, share, score)
 }

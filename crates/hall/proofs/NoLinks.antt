@@ -17,7 +17,7 @@ use Rattle.routes.proofs.Sums.{cond-true, cond-false, sumTo-zero}
 use Rattle.routes.proofs.Rows.{listTo-of}
 use Rattle.routes.proofs.Times.{times, ways-source, ways-reached}
 use Rattle.routes.proofs.Unique.{times-unique}
-use Rattle.book.specs.Hall.{scale, entry, filled}
+use Rattle.book.specs.Hall.{laid, scale, entry, costsIn, filled, noLinks}
 use Rattle.book.proofs.Tables.{table-of, entry-set}
 use Rattle.book.specs.Contract.{tables}
 use Rattle.hall.specs.Promise.{Blank, Diagonal}
@@ -70,31 +70,34 @@ module _ (n x y : ℕ) (old now : List ℕ) (blank : old ≡ replicate (n * n) y
       let other : entry n old s t ≡ y = rw blank (getD-replicate (n * n) (s * n + t) y 0 (digits-lt k l)) in
       d .at s t k l ∙ rw (lt-ltb s n k, and-true, other)
 
--- tables filled so are those of the hall without links
-module _ (n : ℕ) where
-  abbrev bare : Costs
-  bare = entry n (replicate (n * n) 0)
+-- tables filled so are those of the hall without links, whatever the passing times
+module _ (n : ℕ) (passing : List ℕ) where
+  abbrev bare : ℕ → Costs
+  bare = costsIn n (noLinks n passing)
 
-  none : (u v : ℕ) → u < n → v < n → bare u v ≡ 0
-  none u v k l = getD-replicate (n * n) (u * n + v) 0 0 (digits-lt k l)
+  zero : (s t : ℕ) → s < n → t < n → entry n (replicate (n * n) 0) s t ≡ 0
+  zero s t k l = getD-replicate (n * n) (s * n + t) 0 0 (digits-lt k l)
+
+  none : (s u v : ℕ) → u < n → v < n → bare s u v ≡ 0
+  none s u v k l = rw (zero u v k l)
 
   bare-score : (v : ℕ) → v < n → score bare n scale v ≡ 0
   unfolding score
-  bare-score v l = sumTo-zero n (λ s k. alone-share bare n s none k scale v l)
+  bare-score v l = sumTo-zero n (λ s k. alone-share (bare s) n s (none s) k scale v l)
 
   made : {costs times counts shares times′ counts′ scores : List ℕ} → Blank (n * n) costs times counts shares → Diagonal n n 0 times times′ →
-      Diagonal n n 1 counts counts′ → scores ≡ replicate n 0 → tables costs times′ counts′ shares scores ≡ filled scale n (replicate (n * n) 0)
+      Diagonal n n 1 counts counts′ → scores ≡ replicate n 0 → tables costs passing times′ counts′ shares scores ≡ filled scale n (noLinks n passing)
   unfolding filled
   made {costs} {times} {counts} {shares} {times′} {counts′} {scores} b d e z = λ i. record {
-    cost = b .costs i;
-    time = table-of n (leastTime bare n) times′ (length-diagonal n 0 mark times times′ (b .times) d) (λ s t k l. entry-diagonal n 0 mark times times′ (b .times) d s t k l ∙ sym (alone-time bare n s none k t l)) i;
-    ways = table-of n (ways bare n) counts′ (length-diagonal n 1 0 counts counts′ (b .counts) e) (λ s t k l. entry-diagonal n 1 0 counts counts′ (b .counts) e s t k l ∙ sym (alone-ways bare n s none k t l)) i;
-    share = (b .shares ∙ table-of n (λ s. share bare n s scale) (replicate (n * n) 0) (length-replicate (n * n) 0) (λ s t k l. none s t k l ∙ sym (alone-share bare n s none k scale t l))) i;
+    layout = laid (b .costs i) passing;
+    time = table-of n (λ s. leastTime (bare s) n s) times′ (length-diagonal n 0 mark times times′ (b .times) d) (λ s t k l. entry-diagonal n 0 mark times times′ (b .times) d s t k l ∙ sym (alone-time (bare s) n s (none s) k t l)) i;
+    ways = table-of n (λ s. ways (bare s) n s) counts′ (length-diagonal n 1 0 counts counts′ (b .counts) e) (λ s t k l. entry-diagonal n 1 0 counts counts′ (b .counts) e s t k l ∙ sym (alone-ways (bare s) n s (none s) k t l)) i;
+    share = (b .shares ∙ table-of n (λ s. share (bare s) n s scale) (replicate (n * n) 0) (length-replicate (n * n) 0) (λ s t k l. zero s t k l ∙ sym (alone-share (bare s) n s (none s) k scale t l))) i;
     score = (z ∙ listTo-of n (score bare n scale) 0 (replicate n 0) (length-replicate n 0) (λ v l. getD-replicate n v 0 0 l ∙ sym (bare-score v l))) i;
   }
 
   pub emptied : {cells k : ℕ} {costs times counts shares times′ counts′ scores : List ℕ} → cells ≡ n * n → k ≡ n → Blank cells costs times counts shares →
-      Diagonal n n 0 times times′ → Diagonal n n 1 counts counts′ → scores ≡ replicate k 0 → tables costs times′ counts′ shares scores ≡ filled scale n (replicate (n * n) 0)
+      Diagonal n n 0 times times′ → Diagonal n n 1 counts counts′ → scores ≡ replicate k 0 → tables costs passing times′ counts′ shares scores ≡ filled scale n (noLinks n passing)
   emptied p q b d e z = made (rw p at b) d e (z ∙ ap (λ k. replicate k 0) q)
 
 -- the diagonal, place by place

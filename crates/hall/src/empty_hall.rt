@@ -7,7 +7,7 @@ use cells::places;
 ghost use mathlib.Core.Path.{_≡_};
 ghost use Prim.Native.Nat.{_*_, _≤_};
 ghost use lib.ListN.{length, replicate};
-ghost use Rattle.book.specs.Hall.{scale, filled};
+ghost use Rattle.book.specs.Hall.{scale, filled, noLinks};
 ghost use Rattle.book.specs.Call.{emptyHall, Done};
 ghost use Rattle.book.specs.Contract.{these, found, left, ofRefusal, Inside};
 ghost use Rattle.hall.specs.Promise.{Blank, Diagonal};
@@ -49,13 +49,14 @@ fn no_scores(score: &mut [u64])
 fn make_empty(
     n: usize,
     cost: &mut [u32],
+    passing: &[u32],
     time: &mut [u32],
     ways: &mut [u32],
     share: &mut [u64],
     score: &mut [u64],
 )
-    requires { ⌜ Inside n (these cost time ways share score) ⌝ }
-    ensures { λ r. ⌜ left cost time ways share score ≡ filled scale n (replicate (n * n) 0) ⌝ }
+    requires { ⌜ Inside n (these cost passing time ways share score) ⌝ }
+    ensures { λ r. ⌜ left cost passing time ways share score ≡ filled scale n (noLinks n (now (passing .entry))) ⌝ }
 {
     blank(places::cells(n), cost, time, ways, share);
     diagonal(n, time, ways);
@@ -65,17 +66,18 @@ fn make_empty(
 pub fn empty_hall(
     n: u64,
     cost: &mut [u32],
+    passing: &[u32],
     time: &mut [u32],
     ways: &mut [u32],
     share: &mut [u64],
     score: &mut [u64],
 ) -> Refusal
-    ensures { λ r. ⌜ Done (record { n = n; ask = emptyHall }) (found cost time ways share score) (left cost time ways share score) (ofRefusal r) ⌝ }
+    ensures { λ r. ⌜ Done (record { n = n; ask = emptyHall (now (passing .entry)) }) (found cost passing time ways share score) (left cost passing time ways share score) (ofRefusal r) ⌝ }
 {
-    let verdict = door(n, cost, time, ways, share, score);
+    let verdict = door(n, cost, passing, time, ways, share, score);
     if !passes(verdict) {
         return verdict;
     }
-    make_empty(n as usize, cost, time, ways, share, score);
+    make_empty(n as usize, cost, passing, time, ways, share, score);
     Refusal::Accepted
 }

@@ -7,24 +7,25 @@ use cells::costs;
 use cells::scores;
 use tables::fill_all::fill_all;
 ghost use Rattle.book.specs.Call.{workOut, Done};
-ghost use Rattle.book.specs.Contract.{these, found, leftBeside, ofRefusal, Inside};
+ghost use Rattle.book.specs.Contract.{foundLayout, these, found, leftBeside, ofRefusal, Inside};
 
 // Work out behind the door: tests 5 and 11, and the tables.
 fn fill_tables(
     n: usize,
     cost: &[u32],
+    passing: &[u32],
     time: &mut [u32],
     ways: &mut [u32],
     share: &mut [u64],
     score: &mut [u64],
 ) -> Refusal
-    requires { ⌜ Inside n (these cost time ways share score) ⌝ }
-    ensures { λ r. ⌜ Done (record { n = n; ask = workOut (now (cost .entry)) }) (found cost time ways share score) (leftBeside cost time ways share score) (ofRefusal r) ⌝ }
+    requires { ⌜ Inside n (these cost passing time ways share score) ⌝ }
+    ensures { λ r. ⌜ Done (record { n = n; ask = workOut (foundLayout cost passing) }) (found cost passing time ways share score) (leftBeside cost passing time ways share score) (ofRefusal r) ⌝ }
 {
     if !costs::valid(n, cost) {
         return Refusal::BadCost;
     }
-    if !fill_all(Hall::WAYS, Hall::SCALE, n, cost, time, ways, share) {
+    if !fill_all(Hall::WAYS, Hall::SCALE, n, cost, passing, time, ways, share) {
         return Refusal::TooManyWays;
     }
     scores::sum_scores(n, share, score);
@@ -34,16 +35,17 @@ fn fill_tables(
 pub fn work_out(
     n: u64,
     cost: &[u32],
+    passing: &[u32],
     time: &mut [u32],
     ways: &mut [u32],
     share: &mut [u64],
     score: &mut [u64],
 ) -> Refusal
-    ensures { λ r. ⌜ Done (record { n = n; ask = workOut (now (cost .entry)) }) (found cost time ways share score) (leftBeside cost time ways share score) (ofRefusal r) ⌝ }
+    ensures { λ r. ⌜ Done (record { n = n; ask = workOut (foundLayout cost passing) }) (found cost passing time ways share score) (leftBeside cost passing time ways share score) (ofRefusal r) ⌝ }
 {
-    let verdict = door(n, cost, time, ways, share, score);
+    let verdict = door(n, cost, passing, time, ways, share, score);
     if !passes(verdict) {
         return verdict;
     }
-    fill_tables(n as usize, cost, time, ways, share, score)
+    fill_tables(n as usize, cost, passing, time, ways, share, score)
 }

@@ -16,7 +16,7 @@ use moves::move_over;
 use route_lists::list_routes;
 ghost use mathlib.Core.Path.{_≡_};
 ghost use Rattle.book.specs.Call.{emptyHall, workOut, audit, moveOver, edit, listRoutes, imageWrite, imageRead, number, imageCheck};
-ghost use Rattle.book.specs.Contract.{found, left, leftBeside, leftShares};
+ghost use Rattle.book.specs.Contract.{foundLayout, found, left, leftBeside, foundUnpassed, leftShares};
 ghost use Rattle.book.specs.declared.Kind.the-variants.{Insert, Cheapen, Raise, Delete};
 ghost use Rattle.host.specs.Promise.{Handed, HandedList, ofNumber, ofEdited, ofWritten};
 
@@ -52,42 +52,45 @@ pub struct HallWritten {
 pub extern "C" fn hall_empty(
     n: u64,
     cost: &mut [u32],
+    passing: &[u32],
     time: &mut [u32],
     ways: &mut [u32],
     share: &mut [u64],
     score: &mut [u64],
 ) -> u32
-    ensures { λ r. ⌜ Handed (record { n = n; ask = emptyHall }) (found cost time ways share score) (left cost time ways share score) (ofNumber r) ⌝ }
+    ensures { λ r. ⌜ Handed (record { n = n; ask = emptyHall (now (passing .entry)) }) (found cost passing time ways share score) (left cost passing time ways share score) (ofNumber r) ⌝ }
 {
-    number_of(empty_hall(n, cost, time, ways, share, score))
+    number_of(empty_hall(n, cost, passing, time, ways, share, score))
 }
 
 #[no_mangle]
 pub extern "C" fn hall_work_out(
     n: u64,
     cost: &[u32],
+    passing: &[u32],
     time: &mut [u32],
     ways: &mut [u32],
     share: &mut [u64],
     score: &mut [u64],
 ) -> u32
-    ensures { λ r. ⌜ Handed (record { n = n; ask = workOut (now (cost .entry)) }) (found cost time ways share score) (leftBeside cost time ways share score) (ofNumber r) ⌝ }
+    ensures { λ r. ⌜ Handed (record { n = n; ask = workOut (foundLayout cost passing) }) (found cost passing time ways share score) (leftBeside cost passing time ways share score) (ofNumber r) ⌝ }
 {
-    number_of(work_out(n, cost, time, ways, share, score))
+    number_of(work_out(n, cost, passing, time, ways, share, score))
 }
 
 #[no_mangle]
 pub extern "C" fn hall_audit(
     n: u64,
     cost: &[u32],
+    passing: &[u32],
     time: &[u32],
     ways: &[u32],
     share: &[u64],
     score: &[u64],
 ) -> u32
-    ensures { λ r. ⌜ Handed (record { n = n; ask = audit }) (found cost time ways share score) (found cost time ways share score) (ofNumber r) ⌝ }
+    ensures { λ r. ⌜ Handed (record { n = n; ask = audit }) (found cost passing time ways share score) (found cost passing time ways share score) (ofNumber r) ⌝ }
 {
-    number_of(audit(n, cost, time, ways, share, score))
+    number_of(audit(n, cost, passing, time, ways, share, score))
 }
 
 // Tables of the old scale and limit, moved over to this one's.
@@ -100,7 +103,7 @@ pub extern "C" fn hall_move_over(
     share: &mut [u64],
     score: &mut [u64],
 ) -> u32
-    ensures { λ r. ⌜ Handed (record { n = n; ask = moveOver }) (found cost time ways share score) (leftShares cost time ways share score) (ofNumber r) ⌝ }
+    ensures { λ r. ⌜ Handed (record { n = n; ask = moveOver }) (foundUnpassed n cost time ways share score) (leftShares n cost time ways share score) (ofNumber r) ⌝ }
 {
     number_of(move_over(n, cost, time, ways, share, score))
 }
@@ -113,12 +116,13 @@ fn edited(
     v: u64,
     c: u64,
     cost: &mut [u32],
+    passing: &[u32],
     time: &mut [u32],
     ways: &mut [u32],
     share: &mut [u64],
     score: &mut [u64],
 ) -> HallEdited
-    ensures { λ r. ⌜ Handed (record { n = n; ask = edit (record { kind = kind; u = u; v = v; cost = c }) }) (found cost time ways share score) (left cost time ways share score) (ofEdited r) ⌝ }
+    ensures { λ r. ⌜ Handed (record { n = n; ask = edit (record { kind = kind; u = u; v = v; cost = c }) }) (found cost passing time ways share score) (left cost passing time ways share score) (ofEdited r) ⌝ }
 {
     let e = Edit {
         kind,
@@ -126,7 +130,7 @@ fn edited(
         v,
         cost: c,
     };
-    let done = edit(n, e, cost, time, ways, share, score);
+    let done = edit(n, e, cost, passing, time, ways, share, score);
     let refusal = done.refusal;
     HallEdited {
         refusal: number_of(refusal),
@@ -143,14 +147,27 @@ pub extern "C" fn hall_insert(
     v: u64,
     c: u64,
     cost: &mut [u32],
+    passing: &[u32],
     time: &mut [u32],
     ways: &mut [u32],
     share: &mut [u64],
     score: &mut [u64],
 ) -> HallEdited
-    ensures { λ r. ⌜ Handed (record { n = n; ask = edit (record { kind = Insert; u = u; v = v; cost = c }) }) (found cost time ways share score) (left cost time ways share score) (ofEdited r) ⌝ }
+    ensures { λ r. ⌜ Handed (record { n = n; ask = edit (record { kind = Insert; u = u; v = v; cost = c }) }) (found cost passing time ways share score) (left cost passing time ways share score) (ofEdited r) ⌝ }
 {
-    edited(n, Kind::Insert, u, v, c, cost, time, ways, share, score)
+    edited(
+        n,
+        Kind::Insert,
+        u,
+        v,
+        c,
+        cost,
+        passing,
+        time,
+        ways,
+        share,
+        score,
+    )
 }
 
 #[no_mangle]
@@ -160,14 +177,27 @@ pub extern "C" fn hall_cheapen(
     v: u64,
     c: u64,
     cost: &mut [u32],
+    passing: &[u32],
     time: &mut [u32],
     ways: &mut [u32],
     share: &mut [u64],
     score: &mut [u64],
 ) -> HallEdited
-    ensures { λ r. ⌜ Handed (record { n = n; ask = edit (record { kind = Cheapen; u = u; v = v; cost = c }) }) (found cost time ways share score) (left cost time ways share score) (ofEdited r) ⌝ }
+    ensures { λ r. ⌜ Handed (record { n = n; ask = edit (record { kind = Cheapen; u = u; v = v; cost = c }) }) (found cost passing time ways share score) (left cost passing time ways share score) (ofEdited r) ⌝ }
 {
-    edited(n, Kind::Cheapen, u, v, c, cost, time, ways, share, score)
+    edited(
+        n,
+        Kind::Cheapen,
+        u,
+        v,
+        c,
+        cost,
+        passing,
+        time,
+        ways,
+        share,
+        score,
+    )
 }
 
 #[no_mangle]
@@ -177,14 +207,27 @@ pub extern "C" fn hall_raise(
     v: u64,
     c: u64,
     cost: &mut [u32],
+    passing: &[u32],
     time: &mut [u32],
     ways: &mut [u32],
     share: &mut [u64],
     score: &mut [u64],
 ) -> HallEdited
-    ensures { λ r. ⌜ Handed (record { n = n; ask = edit (record { kind = Raise; u = u; v = v; cost = c }) }) (found cost time ways share score) (left cost time ways share score) (ofEdited r) ⌝ }
+    ensures { λ r. ⌜ Handed (record { n = n; ask = edit (record { kind = Raise; u = u; v = v; cost = c }) }) (found cost passing time ways share score) (left cost passing time ways share score) (ofEdited r) ⌝ }
 {
-    edited(n, Kind::Raise, u, v, c, cost, time, ways, share, score)
+    edited(
+        n,
+        Kind::Raise,
+        u,
+        v,
+        c,
+        cost,
+        passing,
+        time,
+        ways,
+        share,
+        score,
+    )
 }
 
 #[no_mangle]
@@ -193,14 +236,27 @@ pub extern "C" fn hall_delete(
     u: u64,
     v: u64,
     cost: &mut [u32],
+    passing: &[u32],
     time: &mut [u32],
     ways: &mut [u32],
     share: &mut [u64],
     score: &mut [u64],
 ) -> HallEdited
-    ensures { λ r. ⌜ Handed (record { n = n; ask = edit (record { kind = Delete; u = u; v = v; cost = 0 }) }) (found cost time ways share score) (left cost time ways share score) (ofEdited r) ⌝ }
+    ensures { λ r. ⌜ Handed (record { n = n; ask = edit (record { kind = Delete; u = u; v = v; cost = 0 }) }) (found cost passing time ways share score) (left cost passing time ways share score) (ofEdited r) ⌝ }
 {
-    edited(n, Kind::Delete, u, v, 0, cost, time, ways, share, score)
+    edited(
+        n,
+        Kind::Delete,
+        u,
+        v,
+        0,
+        cost,
+        passing,
+        time,
+        ways,
+        share,
+        score,
+    )
 }
 
 // A list of edits, four numbers each. One of the first 32 that has another kind or is cut short is told, and then nothing is done.
@@ -209,12 +265,13 @@ pub extern "C" fn hall_edit_numbers(
     n: u64,
     list: &[u64],
     cost: &mut [u32],
+    passing: &[u32],
     time: &mut [u32],
     ways: &mut [u32],
     share: &mut [u64],
     score: &mut [u64],
 ) -> HallListed
-    ensures { λ r. ⌜ HandedList n (now (list .entry)) (found cost time ways share score) (left cost time ways share score) r ⌝ }
+    ensures { λ r. ⌜ HandedList n (now (list .entry)) (found cost passing time ways share score) (left cost passing time ways share score) r ⌝ }
 {
     let other = other_kind(list);
     if other != 0 {
@@ -225,7 +282,7 @@ pub extern "C" fn hall_edit_numbers(
             rows: 0,
         };
     }
-    let done = edit_flat(n, list, cost, time, ways, share, score);
+    let done = edit_flat(n, list, cost, passing, time, ways, share, score);
     let refusal = done.refusal;
     HallListed {
         refusal: number_of(refusal),
@@ -241,15 +298,16 @@ pub extern "C" fn hall_list_routes(
     s: u64,
     t: u64,
     cost: &[u32],
+    passing: &[u32],
     time: &[u32],
     ways: &[u32],
     share: &[u64],
     score: &[u64],
     buffer: &mut [u8],
 ) -> HallWritten
-    ensures { λ r. ⌜ Handed (record { n = n; ask = listRoutes s t (now (buffer .entry)) }) (found cost time ways share score) (found cost time ways share score) (ofWritten r (now (buffer .exit))) ⌝ }
+    ensures { λ r. ⌜ Handed (record { n = n; ask = listRoutes s t (now (buffer .entry)) }) (found cost passing time ways share score) (found cost passing time ways share score) (ofWritten r (now (buffer .exit))) ⌝ }
 {
-    let w = list_routes(n, s, t, cost, time, ways, share, score, buffer);
+    let w = list_routes(n, s, t, cost, passing, time, ways, share, score, buffer);
     let refusal = w.refusal;
     HallWritten {
         refusal: number_of(refusal),
@@ -261,15 +319,16 @@ pub extern "C" fn hall_list_routes(
 pub extern "C" fn hall_image_write(
     n: u64,
     cost: &[u32],
+    passing: &[u32],
     time: &[u32],
     ways: &[u32],
     share: &[u64],
     score: &[u64],
     buffer: &mut [u8],
 ) -> HallWritten
-    ensures { λ r. ⌜ Handed (record { n = n; ask = imageWrite (now (buffer .entry)) }) (found cost time ways share score) (found cost time ways share score) (ofWritten r (now (buffer .exit))) ⌝ }
+    ensures { λ r. ⌜ Handed (record { n = n; ask = imageWrite (now (buffer .entry)) }) (found cost passing time ways share score) (found cost passing time ways share score) (ofWritten r (now (buffer .exit))) ⌝ }
 {
-    let w = image_write(n, cost, time, ways, share, score, buffer);
+    let w = image_write(n, cost, passing, time, ways, share, score, buffer);
     let refusal = w.refusal;
     HallWritten {
         refusal: number_of(refusal),
@@ -282,14 +341,15 @@ pub extern "C" fn hall_image_read(
     n: u64,
     image: &[u8],
     cost: &mut [u32],
+    passing: &[u32],
     time: &mut [u32],
     ways: &mut [u32],
     share: &mut [u64],
     score: &mut [u64],
 ) -> u32
-    ensures { λ r. ⌜ Handed (record { n = n; ask = imageRead (now (image .entry)) }) (found cost time ways share score) (left cost time ways share score) (ofNumber r) ⌝ }
+    ensures { λ r. ⌜ Handed (record { n = n; ask = imageRead (now (image .entry)) (now (passing .entry)) }) (found cost passing time ways share score) (left cost passing time ways share score) (ofNumber r) ⌝ }
 {
-    number_of(image_read(n, image, cost, time, ways, share, score))
+    number_of(image_read(n, image, cost, passing, time, ways, share, score))
 }
 
 // 0 for an image of a hall of n stops, else 1 or 9. Document 01 has the bytes before n.

@@ -6,7 +6,7 @@ use mathlib.Core.List.{List, [], _∷_, _++_}
 use lib.Dec.{ltb}
 use lib.ListN.{length, getD, drop}
 use Rattle.routes.specs.Route.{sumTo}
-use Rattle.book.specs.Hall.{mostWays, scale, entry, validCosts, lowFirst, costsOf}
+use Rattle.book.specs.Hall.{laid, mostWays, scale, entry, validCosts, lowFirst, costsOf}
 use Rattle.book.specs.Written.{recordsTo, linksTo}
 use Rattle.tables.specs.Promise.{FilledAll}
 
@@ -34,6 +34,6 @@ pub record Wrote (n : ℕ) (cost : List ℕ) (u v at u′ v′ end : ℕ) (befor
   pub bytes : (old : List ℕ) → length old ≡ length before → before ≡ recordsTo n (entry n cost) u v ++ drop at old → after ≡ recordsTo n (entry n cost) u′ v′ ++ drop end old
 
 -- the tables of an image's hall, but for the scores, where no pair is crowded, else the tables as they were
-pub record Loaded (n : ℕ) (image cost time ways share cost′ time′ ways′ share′ : List ℕ) (fits : Bool) : Type 0 where
+pub record Loaded (n : ℕ) (image passing cost time ways share cost′ time′ ways′ share′ : List ℕ) (fits : Bool) : Type 0 where
   pub costs : cost′ ≡ cond fits (costsOf n image) cost
-  pub others : FilledAll mostWays scale n (costsOf n image) time ways share time′ ways′ share′ fits
+  pub others : FilledAll mostWays scale n (laid (costsOf n image) passing) time ways share time′ ways′ share′ fits

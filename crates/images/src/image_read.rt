@@ -13,7 +13,7 @@ ghost use mathlib.Core.Path.{_≡_};
 ghost use mathlib.Core.Bool.{true};
 ghost use Prim.Native.Nat.{_*_, _<_, _≤_};
 ghost use lib.ListN.{length, replicate};
-ghost use Rattle.book.specs.Hall.{isImage, costsOf};
+ghost use Rattle.book.specs.Hall.{validPassing, isImage, costsOf};
 ghost use Rattle.book.specs.Call.{imageRead, Done};
 ghost use Rattle.book.specs.Contract.{these, found, left, ofRefusal, Inside};
 ghost use Rattle.tables.specs.Promise.{Square};
@@ -39,13 +39,15 @@ fn load(
     n: usize,
     image: &[u8],
     cost: &mut [u32],
+    passing: &[u32],
     time: &mut [u32],
     ways: &mut [u32],
     share: &mut [u64],
 ) -> bool
     requires { ⌜ (0 < n) × (n ≤ 64) × (isImage n (now image) ≡ true) × (length (now cost) ≡ n * n) ⌝ }
+    requires { ⌜ (length (now passing) ≡ n) × (validPassing n (now passing) ≡ true) ⌝ }
     requires { ⌜ Square n (now time) (now ways) (now share) ⌝ }
-    ensures { λ r. ⌜ Loaded n (now (image .entry)) (now (cost .entry)) (now (time .entry)) (now (ways .entry)) (now (share .entry)) (now (cost .exit)) (now (time .exit)) (now (ways .exit)) (now (share .exit)) r ⌝ }
+    ensures { λ r. ⌜ Loaded n (now (image .entry)) (now (passing .entry)) (now (cost .entry)) (now (time .entry)) (now (ways .entry)) (now (share .entry)) (now (cost .exit)) (now (time .exit)) (now (ways .exit)) (now (share .exit)) r ⌝ }
 {
     let cells = places::cells(n);
     let mut costs = [0u32; Hall::CELLS];
@@ -55,6 +57,7 @@ fn load(
         Hall::SCALE,
         n,
         &costs[..cells],
+        passing,
         time,
         ways,
         share,
@@ -70,18 +73,19 @@ fn read_tables(
     n: usize,
     image: &[u8],
     cost: &mut [u32],
+    passing: &[u32],
     time: &mut [u32],
     ways: &mut [u32],
     share: &mut [u64],
     score: &mut [u64],
 ) -> Refusal
-    requires { ⌜ Inside n (these cost time ways share score) ⌝ }
-    ensures { λ r. ⌜ Done (record { n = n; ask = imageRead (now (image .entry)) }) (found cost time ways share score) (left cost time ways share score) (ofRefusal r) ⌝ }
+    requires { ⌜ Inside n (these cost passing time ways share score) ⌝ }
+    ensures { λ r. ⌜ Done (record { n = n; ask = imageRead (now (image .entry)) (now (passing .entry)) }) (found cost passing time ways share score) (left cost passing time ways share score) (ofRefusal r) ⌝ }
 {
     if !image_check::is_image(n, image) {
         return Refusal::BadImage;
     }
-    if !load(n, image, cost, time, ways, share) {
+    if !load(n, image, cost, passing, time, ways, share) {
         return Refusal::TooManyWays;
     }
     scores::sum_scores(n, share, score);
@@ -92,16 +96,17 @@ pub fn image_read(
     n: u64,
     image: &[u8],
     cost: &mut [u32],
+    passing: &[u32],
     time: &mut [u32],
     ways: &mut [u32],
     share: &mut [u64],
     score: &mut [u64],
 ) -> Refusal
-    ensures { λ r. ⌜ Done (record { n = n; ask = imageRead (now (image .entry)) }) (found cost time ways share score) (left cost time ways share score) (ofRefusal r) ⌝ }
+    ensures { λ r. ⌜ Done (record { n = n; ask = imageRead (now (image .entry)) (now (passing .entry)) }) (found cost passing time ways share score) (left cost passing time ways share score) (ofRefusal r) ⌝ }
 {
-    let verdict = door(n, cost, time, ways, share, score);
+    let verdict = door(n, cost, passing, time, ways, share, score);
     if !passes(verdict) {
         return verdict;
     }
-    read_tables(n as usize, image, cost, time, ways, share, score)
+    read_tables(n as usize, image, cost, passing, time, ways, share, score)
 }

@@ -98,15 +98,16 @@ fn store(n: usize, cost: &[u32], buffer: &mut [u8]) -> WriteAnswer
 pub fn image_write(
     n: u64,
     cost: &[u32],
+    passing: &[u32],
     time: &[u32],
     ways: &[u32],
     share: &[u64],
     score: &[u64],
     buffer: &mut [u8],
 ) -> WriteAnswer
-    ensures { λ r. ⌜ Done (record { n = n; ask = imageWrite (now (buffer .entry)) }) (found cost time ways share score) (found cost time ways share score) (ofWrite r (now (buffer .exit))) ⌝ }
+    ensures { λ r. ⌜ Done (record { n = n; ask = imageWrite (now (buffer .entry)) }) (found cost passing time ways share score) (found cost passing time ways share score) (ofWrite r (now (buffer .exit))) ⌝ }
 {
-    let verdict = audit(n, cost, time, ways, share, score);
+    let verdict = audit(n, cost, passing, time, ways, share, score);
     if !passes(verdict) {
         return WriteAnswer {
             refusal: verdict,

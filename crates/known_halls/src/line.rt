@@ -19,7 +19,7 @@ use calls::tables::Tables;
 use calls::tables::filled;
 use calls::tables::link;
 
-fn links() -> Tables {
+pub fn links() -> Tables {
     let mut t = filled(0, 0);
     for u in 0u64..63 {
         t = link(64, u, u + 1, 65535, t);
@@ -36,7 +36,7 @@ pub fn insert_links(n: u64, count: u64, before: Inserts) -> Inserts {
     inserts
 }
 
-fn some_scores(t: Tables) {
+pub fn some_scores(t: Tables) {
     field(b"scores of stops 0, 1, 31, 32, 63: ", score(0, t));
     field(b" ", score(1, t));
     field(b" ", score(31, t));

@@ -31,9 +31,10 @@ fn narrowed(from: &[u64], count: usize, table: &mut [u32; CELLS]) {
     }
 }
 
-// The tables t, but for the lister's times, ways, shares and scores of their costs.
+// The tables t, but for the lister's times, ways, shares and scores of their costs and passing times.
 fn by_scale(n: u64, scale: u32, t: Tables) -> Tables {
     let cost = t.cost;
+    let passing = t.passing;
     let mut times = [0u64; CELLS];
     let mut counts = [0u64; CELLS];
     let mut time = t.time;
@@ -42,6 +43,7 @@ fn by_scale(n: u64, scale: u32, t: Tables) -> Tables {
     let mut score = t.score;
     lister::tables(
         &cost,
+        &passing,
         n,
         scale,
         &mut times,
@@ -53,6 +55,7 @@ fn by_scale(n: u64, scale: u32, t: Tables) -> Tables {
     narrowed(&counts, cells(n), &mut ways);
     Tables {
         cost,
+        passing,
         time,
         ways,
         share,
@@ -79,12 +82,18 @@ pub fn most_ways(n: u64, t: Tables) -> u64 {
     tables::most_ways(n, listed(n, t))
 }
 
+// The sources from which a quickest route, before or after, uses the link of an edit.
+fn touched_by(call: Call, before: Tables, after: Tables) -> u64 {
+    let passing = before.passing;
+    lister::touched(&before.cost, &after.cost, &passing, call.n, call.u, call.v)
+}
+
 // The sources that an edit touches; none where it is refused.
 fn touched(call: Call, before: Tables, after: Tables, refusal: u64) -> u64 {
     if refusal != 0 {
         return 0;
     }
-    lister::touched(&before.cost, &after.cost, call.n, call.u, call.v)
+    touched_by(call, before, after)
 }
 
 // What an edit's link cost before it; 0 where the edit is refused.
@@ -135,7 +144,7 @@ fn cost_set(call: Call) -> u64 {
 fn step(call: Call, before: Passed) -> Passed {
     let t = before.tables;
     let tables = link(call.n, call.u, call.v, cost_set(call), t);
-    let set = lister::touched(&t.cost, &tables.cost, call.n, call.u, call.v);
+    let set = touched_by(call, t, tables);
     Passed {
         tables,
         touched: before.touched | set,

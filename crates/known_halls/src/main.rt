@@ -4,6 +4,7 @@ mod line;
 mod listed;
 mod lists;
 mod moved;
+mod passing;
 mod quickest;
 mod report;
 mod sizes;
@@ -29,6 +30,10 @@ fn main() {
     moved::none_between();
     quickest::two_ways();
     quickest::longest();
+    passing::longest();
+    passing::ways_made();
+    passing::ways_unmade();
+    passing::too_large();
     sizes::too_large();
     smallest::no_links();
 }

@@ -42,7 +42,8 @@ fn asked(n: u64, s: u64, t: u64, room: usize, tables: Tables, buffer: &mut [u8])
 // How many bytes of a buffer are not as the lister leaves one, and whether the length is another.
 fn unlisted(n: u64, s: u64, t: u64, tables: Tables, length: u64, buffer: &[u8]) -> u64 {
     let mut bytes = [7u8; ROOM];
-    let listed = lister::routes(&tables.cost, n, s, t, &mut bytes);
+    let passing = tables.passing;
+    let listed = lister::routes(&tables.cost, &passing, n, s, t, &mut bytes);
     wrapping_add_u64(
         unlike(length, listed as u64),
         text::differing(&bytes, buffer),

@@ -60,9 +60,12 @@ fn said(name: &[u8], number: u64, n: u64, t: Tables, wanted: Tables) -> Tables {
     left
 }
 
-// Where it is accepted, over tables of entries 0.
+// Where it is accepted, over tables of entries 0, but for the passing times.
 pub fn empty_hall(name: &[u8], n: u64, t: Tables) -> Tables {
-    said(name, EMPTY_HALL, n, t, filled(0, 0))
+    let passing = t.passing;
+    let mut wanted = filled(0, 0);
+    wanted.passing = passing;
+    said(name, EMPTY_HALL, n, t, wanted)
 }
 
 pub fn work_out(name: &[u8], n: u64, t: Tables) -> Tables {
@@ -151,7 +154,7 @@ pub fn image_check(name: &[u8], image: &[u8], n: u64) {
     field(name, check(image, n).refusal);
 }
 
-// Whether five tables are five others.
+// Whether six tables are six others.
 pub fn same(t: Tables, o: Tables) {
     let count = differing(t, o);
     if count == 0 {

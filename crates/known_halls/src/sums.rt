@@ -43,6 +43,7 @@ pub fn none_in_16_bits() {
 // The tables with other ways from stop 0 to the last stop.
 fn with_ways(n: u64, last: u64, count: u64, t: Tables) -> Tables {
     let cost = t.cost;
+    let passing = t.passing;
     let time = t.time;
     let mut ways = t.ways;
     let share = t.share;
@@ -50,6 +51,7 @@ fn with_ways(n: u64, last: u64, count: u64, t: Tables) -> Tables {
     put(&mut ways, place(n, 0, last), count);
     Tables {
         cost,
+        passing,
         time,
         ways,
         share,

@@ -34,10 +34,11 @@ fn few(n: u64) -> usize
     if n < STOPS as u64 { n as usize } else { STOPS }
 }
 
-// Fills the times, the ways, the shares and the scores of a cost table; a whole share counts the scale.
+// Fills the times, the ways, the shares and the scores of a cost table and the stops' passing times; a whole share counts the scale.
 // What a lent table has behind the hall's entries stays.
 pub fn tables(
     cost: &[u32],
+    passing: &[u32],
     n: u64,
     scale: u32,
     time: &mut [u64],
@@ -53,18 +54,26 @@ pub fn tables(
     let n = few(n);
     let mut tally = [0u64; ROOM];
     for s in 0..n {
-        list(cost, n, s, 0, 0, &mut tally);
+        list(cost, passing, n, s, 0, 0, &mut tally);
         fill_row(scale, n, s, &tally, time, ways, share);
     }
     fill_scores(n, share, score);
 }
 
 // Whether a quickest route from s goes from u on to v.
-fn touches(cost: &[u32], n: usize, s: usize, u: usize, v: usize, tally: &mut [u64; ROOM]) -> bool
+fn touches(
+    cost: &[u32],
+    passing: &[u32],
+    n: usize,
+    s: usize,
+    u: usize,
+    v: usize,
+    tally: &mut [u64; ROOM],
+) -> bool
     requires { ⌜ n ≤ 64 ⌝ }
     requires { ⌜ s < n ⌝ }
 {
-    list(cost, n, s, u, v, tally);
+    list(cost, passing, n, s, u, v, tally);
     for t in 0..n {
         if using_to(tally, t) > 0 {
             return true;
@@ -77,6 +86,7 @@ fn touches(cost: &[u32], n: usize, s: usize, u: usize, v: usize, tally: &mut [u6
 fn touches_either(
     before: &[u32],
     after: &[u32],
+    passing: &[u32],
     n: usize,
     s: usize,
     u: usize,
@@ -86,10 +96,10 @@ fn touches_either(
     requires { ⌜ n ≤ 64 ⌝ }
     requires { ⌜ s < n ⌝ }
 {
-    if touches(before, n, s, u, v, tally) {
+    if touches(before, passing, n, s, u, v, tally) {
         return true;
     }
-    touches(after, n, s, u, v, tally)
+    touches(after, passing, n, s, u, v, tally)
 }
 
 // The set with s in it: bit s is 1.
@@ -102,14 +112,23 @@ fn with(set: u64, s: usize) -> u64
 
 // The set of the sources from which a quickest route, before or after, uses the link from u to v. Only
 // bits of stops are 1 in it.
-pub fn touched(before: &[u32], after: &[u32], n: u64, u: u64, v: u64) -> u64
+pub fn touched(before: &[u32], after: &[u32], passing: &[u32], n: u64, u: u64, v: u64) -> u64
     ensures { λ r. ⌜ r < 2 ^ min n 64 ⌝ }
 {
     let n = few(n);
     let mut tally = [0u64; ROOM];
     let mut set = 0;
     for s in 0..n {
-        if touches_either(before, after, n, s, u as usize, v as usize, &mut tally) {
+        if touches_either(
+            before,
+            after,
+            passing,
+            n,
+            s,
+            u as usize,
+            v as usize,
+            &mut tally,
+        ) {
             set = with(set, s);
         }
     }
@@ -130,24 +149,32 @@ pub fn number(set: u64) -> u64
 }
 
 // Writes those of the routes from s that lead to t in the least time, behind the byte of their number.
-fn put_routes(cost: &[u32], n: usize, s: usize, t: usize, buffer: &mut [u8], from: usize) -> usize
+fn put_routes(
+    cost: &[u32],
+    passing: &[u32],
+    n: usize,
+    s: usize,
+    t: usize,
+    buffer: &mut [u8],
+    from: usize,
+) -> usize
     requires { ⌜ n ≤ 64 ⌝ }
     requires { ⌜ (s < n) × (t < n) ⌝ }
     requires { ⌜ (0 < from) × (from ≤ length (now buffer)) ⌝ }
     ensures { λ r. ⌜ Wrote from r (now (buffer .entry)) (now (buffer .exit)) ⌝ }
 {
     let mut tally = [0u64; ROOM];
-    list(cost, n, s, 0, 0, &mut tally);
+    list(cost, passing, n, s, 0, 0, &mut tally);
     let least = time_to(&tally, t);
     let mut route = [0u8; STOPS];
     route[0] = s as u8;
-    keep(cost, n, t, least, &mut route, 1, buffer, from)
+    keep(cost, passing, n, t, least, &mut route, 1, buffer, from)
 }
 
 // Writes the quickest routes from s to t: one byte with their number, and then each as one byte with the number of its stops and a
 // byte for each stop, in order of their stops, compared from the front. Says how many bytes it wrote; a list that the buffer is too
 // short for is cut off. From and to a stop of n or more there is no route.
-pub fn routes(cost: &[u32], n: u64, s: u64, t: u64, buffer: &mut [u8]) -> usize
+pub fn routes(cost: &[u32], passing: &[u32], n: u64, s: u64, t: u64, buffer: &mut [u8]) -> usize
     ensures { λ r. ⌜ Wrote 0 r (now (buffer .entry)) (now (buffer .exit)) ⌝ }
 {
     let n = few(n);
@@ -161,5 +188,5 @@ pub fn routes(cost: &[u32], n: u64, s: u64, t: u64, buffer: &mut [u8]) -> usize
     if n as u64 <= t {
         return first;
     }
-    put_routes(cost, n, s as usize, t as usize, buffer, first)
+    put_routes(cost, passing, n, s as usize, t as usize, buffer, first)
 }

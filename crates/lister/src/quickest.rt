@@ -51,6 +51,7 @@ fn put_route(route: &[u8; STOPS], k: usize, buffer: &mut [u8], from: usize) -> u
 // The same if the route ends at t and takes the least time.
 fn put_quickest(
     cost: &[u32],
+    passing: &[u32],
     n: usize,
     t: usize,
     least: u64,
@@ -67,7 +68,7 @@ fn put_quickest(
     if stop(route, k - 1) != t {
         return from;
     }
-    if time(cost, n, route, k) != least {
+    if time(cost, passing, n, route, k) != least {
         return from;
     }
     put_route(route, k, buffer, from)
@@ -78,6 +79,7 @@ fn put_quickest(
 // and none is the front of another, since t is their last stop and on none of them twice.
 pub fn keep(
     cost: &[u32],
+    passing: &[u32],
     n: usize,
     t: usize,
     least: u64,
@@ -91,14 +93,14 @@ pub fn keep(
     requires { ⌜ (0 < from) × (from ≤ length (now buffer)) ⌝ }
     ensures { λ r. ⌜ Wrote from r (now (buffer .entry)) (now (buffer .exit)) ⌝ }
 {
-    let mut at = put_quickest(cost, n, t, least, route, k, buffer, from);
+    let mut at = put_quickest(cost, passing, n, t, least, route, k, buffer, from);
     if k == STOPS {
         return at;
     }
     for next in 0..n {
         if goes_on(cost, n, route, k, next) {
             route[k] = next as u8;
-            at = keep(cost, n, t, least, route, k + 1, buffer, at);
+            at = keep(cost, passing, n, t, least, route, k + 1, buffer, at);
         }
     }
     at

@@ -39,6 +39,17 @@ pub fn link(cost: &[u32], n: usize, u: usize, v: usize) -> u64
     if at < cost.len() { wide(cost[at]) } else { 0 }
 }
 
+// The passing time of v, 0 where the table has none.
+fn passing_time(passing: &[u32], v: usize) -> u64
+    ensures { λ r. ⌜ r ≤ 4294967295 ⌝ }
+{
+    if v < passing.len() {
+        wide(passing[v])
+    } else {
+        0
+    }
+}
+
 // The stop at a place of the route.
 pub fn stop(route: &[u8; STOPS], i: usize) -> usize
     requires { ⌜ i < 64 ⌝ }
@@ -73,16 +84,37 @@ pub fn uses(route: &[u8; STOPS], k: usize, u: usize, v: usize) -> bool
     false
 }
 
-// The sum of the route's costs.
-pub fn time(cost: &[u32], n: usize, route: &[u8; STOPS], k: usize) -> u64
+// The sum of the costs of the route's links.
+fn on_links(cost: &[u32], n: usize, route: &[u8; STOPS], k: usize) -> u64
     requires { ⌜ n ≤ 64 ⌝ }
     requires { ⌜ k ≤ 64 ⌝ }
+    ensures { λ r. ⌜ r ≤ 4294967295 * 64 ⌝ }
 {
     let mut sum = 0;
     for i in 1..k {
         sum += link(cost, n, stop(route, i - 1), stop(route, i));
     }
     sum
+}
+
+// The sum of the passing times of its stops but for the first and the last.
+fn between_ends(passing: &[u32], route: &[u8; STOPS], k: usize) -> u64
+    requires { ⌜ k ≤ 64 ⌝ }
+    ensures { λ r. ⌜ r ≤ 4294967295 * 64 ⌝ }
+{
+    let mut sum = 0;
+    for i in 2..k {
+        sum += passing_time(passing, stop(route, i - 1));
+    }
+    sum
+}
+
+// The route's time: the sum of its links' costs and of the passing times of the stops strictly between its ends.
+pub fn time(cost: &[u32], passing: &[u32], n: usize, route: &[u8; STOPS], k: usize) -> u64
+    requires { ⌜ n ≤ 64 ⌝ }
+    requires { ⌜ k ≤ 64 ⌝ }
+{
+    on_links(cost, n, route, k) + between_ends(passing, route, k)
 }
 
 // Whether a link leads from the route's last stop to v, and the route does not stop at v.

@@ -15,6 +15,7 @@ use crate::tally::time_to;
 // part of the tally anew, and one as quick is counted.
 fn note(
     cost: &[u32],
+    passing: &[u32],
     n: usize,
     u: usize,
     v: usize,
@@ -26,7 +27,7 @@ fn note(
     requires { ⌜ (0 < k) × (k ≤ 64) ⌝ }
 {
     let t = stop(route, k - 1);
-    let taken = time(cost, n, route, k);
+    let taken = time(cost, passing, n, route, k);
     let best = time_to(tally, t);
     if taken < best {
         start(tally, n, t, taken);
@@ -40,6 +41,7 @@ fn note(
 // each link to a stop that is not on the route.
 fn walk(
     cost: &[u32],
+    passing: &[u32],
     n: usize,
     u: usize,
     v: usize,
@@ -50,25 +52,33 @@ fn walk(
     requires { ⌜ n ≤ 64 ⌝ }
     requires { ⌜ (0 < k) × (k ≤ 64) ⌝ }
 {
-    note(cost, n, u, v, route, k, tally);
+    note(cost, passing, n, u, v, route, k, tally);
     if k == STOPS {
         return;
     }
     for next in 0..n {
         if goes_on(cost, n, route, k, next) {
             route[k] = next as u8;
-            walk(cost, n, u, v, route, k + 1, tally);
+            walk(cost, passing, n, u, v, route, k + 1, tally);
         }
     }
 }
 
 // Tallies every route from s, with those that go from u on to v.
-pub fn list(cost: &[u32], n: usize, s: usize, u: usize, v: usize, tally: &mut [u64; ROOM])
+pub fn list(
+    cost: &[u32],
+    passing: &[u32],
+    n: usize,
+    s: usize,
+    u: usize,
+    v: usize,
+    tally: &mut [u64; ROOM],
+)
     requires { ⌜ n ≤ 64 ⌝ }
     requires { ⌜ s < n ⌝ }
 {
     let mut route = [0u8; STOPS];
     route[0] = s as u8;
     clear(tally, n);
-    walk(cost, n, u, v, &mut route, 1, tally);
+    walk(cost, passing, n, u, v, &mut route, 1, tally);
 }

@@ -1,7 +1,10 @@
 // Writes the lister's tables of four halls, their quickest routes between some stops, and what the edits
-// that make and change the first of them touch; the second hall's tables also by the old scale. The stored
-// output was worked out apart from the lister: the first two halls by hand, the line by formulas, the last
-// and the routes of all by listing them in another program.
+// that make and change the first of them touch; the second hall's tables also by the old scale; and the same
+// of halls whose stops take time to pass. The stored output was worked out apart from the lister: the first
+// two halls and those with passing times by hand, the line by formulas, the last of the four and the routes
+// of all four by listing them in another program.
+mod passing;
+
 ghost use Prim.Native.Nat.{_<_};
 
 // What a whole share counts, and what it counted before.
@@ -24,12 +27,21 @@ fn at(table: &[u64], i: usize) -> u64 {
 }
 
 // Writes the four tables of a hall of at most ten stops; they have n × n entries.
-fn hall(cost: &[u32], n: u64, scale: u32, entries: usize) {
+fn hall(cost: &[u32], passing: &[u32], n: u64, scale: u32, entries: usize) {
     let mut time = [0u64; 100];
     let mut ways = [0u64; 100];
     let mut share = [0u64; 100];
     let mut score = [0u64; 10];
-    lister::tables(cost, n, scale, &mut time, &mut ways, &mut share, &mut score);
+    lister::tables(
+        cost,
+        passing,
+        n,
+        scale,
+        &mut time,
+        &mut ways,
+        &mut share,
+        &mut score,
+    );
     line(b"time", &time, entries);
     line(b"ways", &ways, entries);
     line(b"share", &share, entries);
@@ -45,8 +57,8 @@ fn wide(x: u8) -> u64 {
 }
 
 // Writes a line: two stops, and the bytes that the lister wrote of the quickest routes between them.
-fn routes(cost: &[u32], n: u64, s: u64, t: u64, buffer: &mut [u8]) {
-    let length = lister::routes(cost, n, s, t, buffer);
+fn routes(cost: &[u32], passing: &[u32], n: u64, s: u64, t: u64, buffer: &mut [u8]) {
+    let length = lister::routes(cost, passing, n, s, t, buffer);
     io::write_all(1, b"routes ");
     io::print_decimal(1, s);
     io::write_all(1, b" ");
@@ -60,29 +72,29 @@ fn routes(cost: &[u32], n: u64, s: u64, t: u64, buffer: &mut [u8]) {
 }
 
 // In the hall of two ways from 0 to 3; stop 4 is none of its stops.
-fn diamond_routes(cost: &[u32], buffer: &mut [u8]) {
-    routes(cost, 4, 0, 3, buffer);
-    routes(cost, 4, 1, 3, buffer);
-    routes(cost, 4, 2, 2, buffer);
-    routes(cost, 4, 3, 0, buffer);
-    routes(cost, 4, 0, 4, buffer);
-    routes(cost, 4, 4, 4, buffer);
+fn diamond_routes(cost: &[u32], none: &[u32], buffer: &mut [u8]) {
+    routes(cost, none, 4, 0, 3, buffer);
+    routes(cost, none, 4, 1, 3, buffer);
+    routes(cost, none, 4, 2, 2, buffer);
+    routes(cost, none, 4, 3, 0, buffer);
+    routes(cost, none, 4, 0, 4, buffer);
+    routes(cost, none, 4, 4, 4, buffer);
 }
 
 // The same list in buffers of eight bytes and of none: it is cut off.
-fn cut_off(cost: &[u32]) {
+fn cut_off(cost: &[u32], none: &[u32]) {
     let mut bytes = [0u8; 8];
     let buffer: &mut [u8] = &mut bytes;
-    routes(cost, 4, 0, 3, buffer);
-    routes(cost, 4, 0, 3, &mut buffer[0..0]);
+    routes(cost, none, 4, 0, 3, buffer);
+    routes(cost, none, 4, 0, 3, &mut buffer[0..0]);
 }
 
 // In the hall of ties, where routes of different lengths take the same time.
-fn tied_routes(cost: &[u32], buffer: &mut [u8]) {
-    routes(cost, 5, 0, 1, buffer);
-    routes(cost, 5, 0, 3, buffer);
-    routes(cost, 5, 0, 4, buffer);
-    routes(cost, 5, 4, 0, buffer);
+fn tied_routes(cost: &[u32], none: &[u32], buffer: &mut [u8]) {
+    routes(cost, none, 5, 0, 1, buffer);
+    routes(cost, none, 5, 0, 3, buffer);
+    routes(cost, none, 5, 0, 4, buffer);
+    routes(cost, none, 5, 4, 0, buffer);
 }
 
 fn put(table: &mut [u32], i: usize, c: u32) {
@@ -99,13 +111,13 @@ fn copy(from: &[u32], to: &mut [u32]) {
 
 // Gives the link from u to v of a hall of four stops the cost c, and writes the set of the sources
 // that this touches, and their number. `before` is left as the former cost table.
-fn edit(before: &mut [u32], cost: &mut [u32], u: usize, v: usize, c: u32)
+fn edit(before: &mut [u32], cost: &mut [u32], passing: &[u32], u: usize, v: usize, c: u32)
     requires { ⌜ u < 4 ⌝ }
     requires { ⌜ v < 4 ⌝ }
 {
     copy(cost, before);
     put(cost, u * 4 + v, c);
-    let set = lister::touched(before, cost, 4, u as u64, v as u64);
+    let set = lister::touched(before, cost, passing, 4, u as u64, v as u64);
     let answer = [set, lister::number(set)];
     line(b"touched", &answer, 2);
 }
@@ -178,25 +190,27 @@ fn main() {
     let diamond: &mut [u32] = &mut present;
     let mut bytes = [0u8; 65];
     let buffer: &mut [u8] = &mut bytes;
-    edit(before, diamond, 0, 1, 5);
-    edit(before, diamond, 0, 2, 5);
-    edit(before, diamond, 1, 3, 5);
-    edit(before, diamond, 2, 3, 5);
-    hall(diamond, 4, SCALE, 16);
-    diamond_routes(diamond, buffer);
-    cut_off(diamond);
-    edit(before, diamond, 2, 3, 4);
-    hall(diamond, 4, SCALE, 16);
-    routes(diamond, 4, 0, 3, buffer);
-    edit(before, diamond, 2, 3, 0);
-    hall(diamond, 4, SCALE, 16);
-    hall(&ties(), 5, SCALE, 25);
-    hall(&line_of_ten(), 10, SCALE, 100);
-    hall(&most_ways(), 6, SCALE, 36);
-    hall(&ties(), 5, OLD_SCALE, 25);
-    tied_routes(&ties(), buffer);
-    routes(&line_of_ten(), 10, 0, 9, buffer);
-    routes(&line_of_ten(), 10, 1, 9, buffer);
-    routes(&most_ways(), 6, 0, 5, buffer);
-    routes(&most_ways(), 6, 1, 4, buffer);
+    let none: &[u32] = &[0; 10];
+    edit(before, diamond, none, 0, 1, 5);
+    edit(before, diamond, none, 0, 2, 5);
+    edit(before, diamond, none, 1, 3, 5);
+    edit(before, diamond, none, 2, 3, 5);
+    hall(diamond, none, 4, SCALE, 16);
+    diamond_routes(diamond, none, buffer);
+    cut_off(diamond, none);
+    edit(before, diamond, none, 2, 3, 4);
+    hall(diamond, none, 4, SCALE, 16);
+    routes(diamond, none, 4, 0, 3, buffer);
+    edit(before, diamond, none, 2, 3, 0);
+    hall(diamond, none, 4, SCALE, 16);
+    hall(&ties(), none, 5, SCALE, 25);
+    hall(&line_of_ten(), none, 10, SCALE, 100);
+    hall(&most_ways(), none, 6, SCALE, 36);
+    hall(&ties(), none, 5, OLD_SCALE, 25);
+    tied_routes(&ties(), none, buffer);
+    routes(&line_of_ten(), none, 10, 0, 9, buffer);
+    routes(&line_of_ten(), none, 10, 1, 9, buffer);
+    routes(&most_ways(), none, 6, 0, 5, buffer);
+    routes(&most_ways(), none, 6, 1, 4, buffer);
+    passing::tries(buffer);
 }

@@ -1,7 +1,7 @@
 -- Laws of the lines of a text, one after another: between two of them the tables are those of the book, and what is printed and what is
 -- left to print make the whole. Assumes nothing.
-use Prim.Native.Nat.{ℕ, zero, suc, _+_, _*_, _<_, _≤_}
-use mathlib.Core.Path.{_≡_, refl, _∙_, ap}
+use Prim.Native.Nat.{ℕ, _+_, _*_, _<_, _≤_}
+use mathlib.Core.Path.{_≡_, _∙_, ap}
 use mathlib.Core.List.{List, []}
 use native.Mathlib.Omega.{arith}
 use lib.ListN.{length, getD, take, drop, drop-of-length-le}
@@ -9,7 +9,7 @@ use lib.Seq.{length-take-le}
 use Rattle.routes.specs.Route.{joinTo, listTo, score}
 use Rattle.routes.proofs.Rows.{length-listTo, getD-listTo}
 use Rattle.bytes.specs.Bytes.{indexOf}
-use Rattle.book.specs.Hall.{Tables, scale, entry, filled, right}
+use Rattle.book.specs.Hall.{Tables, scale, filled, right, costsIn}
 use Rattle.book.specs.Contract.{Audited}
 use Rattle.words.specs.declared.Line.{Line}
 use Rattle.words.specs.Text.{longest, parts, lines, words, lineOf, stopLine, said, report}
@@ -19,6 +19,7 @@ use Rattle.words.proofs.Reading.{from as part, line-next, index-within, index-i
 use Rattle.print.proofs.Printing.{Left, go-on, last}
 use Rattle.print.proofs.Lengths.{said-short, said-within}
 use Rattle.listing.proofs.Books.{held, own, next-audited}
+use Rattle.routes.proofs.Lists.{joinTo-cong}
 
 -- line i fits where it has room
 pub line-fits : {n : ℕ} {t : Tables} (s : Audited n t) (l : Line) {i at : ℕ} {out : List ℕ} → Room i at out → at + length (said i (bookOf n t) l) ≤ length out
@@ -33,18 +34,13 @@ pub record Going (n : ℕ) (text : List ℕ) (first : ℕ) (out₀ : List ℕ) (
   pub count : i ≤ from + 2
   pub left : Left (report i (bookOf n t) (lines (drop from text))) at out (report 2 (bookOf n t₀) (lines (drop first text))) start out₀
 
-joinTo-cong : (n : ℕ) {f g : ℕ → List ℕ} → ((i : ℕ) → i < n → f i ≡ g i) → joinTo n f ≡ joinTo n g
-unfolding joinTo
-joinTo-cong zero h = refl
-joinTo-cong (suc n) h = rw (joinTo-cong n (λ i l. h i (omega arith)), h n (omega arith))
-
 -- the scores that stand in the tables are the book's
 score-lines : (n i : ℕ) (t : Tables) → Audited n t → joinTo (length (t .score)) (λ v. stopLine v (getD (t .score) v 0)) ≡ report i (bookOf n t) []
 unfolding report filled
 score-lines n i t s =
-    let scores : t .score ≡ listTo n (score (entry n (t .cost)) n scale) = ap (λ (t : Tables). t .score) (own s) in
-    rw (scores, length-listTo n (score (entry n (t .cost)) n scale))
-    (joinTo-cong n (λ v l. ap (stopLine v) (getD-listTo n (score (entry n (t .cost)) n scale) 0 v l)))
+    let scores : t .score ≡ listTo n (score (costsIn n (t .layout)) n scale) = ap (λ (t : Tables). t .score) (own s) in
+    rw (scores, length-listTo n (score (costsIn n (t .layout)) n scale))
+    (joinTo-cong n (λ v l. ap (stopLine v) (getD-listTo n (score (costsIn n (t .layout)) n scale) 0 v l)))
 
 module _ {n : ℕ} {text : List ℕ} {first : ℕ} {out₀ : List ℕ} {start : ℕ} {t₀ t : Tables} {out : List ℕ} {at i from : ℕ} (g : Going n text first out₀ start t₀ t out at i from) where
   -- a line further

@@ -11,8 +11,7 @@ use lib.Seq.{take-nil, sets-eq}
 use borrow.Author.Tests.{le-ltb, lt-ltb}
 use Rattle.bytes.specs.Bytes.{indexOf}
 use Rattle.book.specs.Hall.{mostStops, upTo}
-use Rattle.book.specs.Book.{noLinks}
-use Rattle.words.specs.Text.{longest, bytes, parts, lines, words, hallOf, hallLine, report, ofLines, listing}
+use Rattle.words.specs.Text.{longest, bytes, parts, lines, words, hallOf, hallLine, report, ofLines, listing, emptyBook}
 use Rattle.words.proofs.Reading.{line-first}
 use Rattle.print.specs.Promise.{Printed}
 use Rattle.listing.specs.declared.Listed.{Listed}
@@ -38,7 +37,7 @@ too-long input h = rw (lt-ltb longest (length input) h)
 -- a text that is not too long, by its first line
 pub by-hall : (input : List ℕ) (e : ℕ) → length input ≤ longest → e ≡ indexOf 10 input →
     let n : ℕ = hallOf (words (take e input)) in
-    listing input ≡ cond (upTo mostStops n) (hallLine n ++ report 2 (noLinks n) (lines (drop (e + 1) input))) (bytes "no hall\n")
+    listing input ≡ cond (upTo mostStops n) (hallLine n ++ report 2 (emptyBook n) (lines (drop (e + 1) input))) (bytes "no hall\n")
 unfolding listing ofLines hallOf parts
 by-hall [] e h cut = rw (take-nil {A = ℕ} e)
 by-hall (x ∷ input) e h cut = rw (le-ltb longest (length (x ∷ input)) h, cut, line-first (x ∷ input) (omega arith), add-one (indexOf 10 (x ∷ input)))

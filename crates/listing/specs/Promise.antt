@@ -18,9 +18,9 @@ use Rattle.listing.specs.declared.Listed.{Listed}
 abbrev pub room : ℕ
 room = 430000
 
--- the book with the costs of five tables of n stops
+-- the book with the layout of tables of n stops
 abbrev pub bookOf : ℕ → Tables → Book
-bookOf n t = record { stops = n; links = t .cost }
+bookOf n t = record { stops = n; layout = t .layout }
 
 -- line i has room behind place `at`
 pub record Room (i at : ℕ) (out : List ℕ) : Type 0 where
@@ -29,7 +29,7 @@ pub record Room (i at : ℕ) (out : List ℕ) : Type 0 where
 
 -- line i, with what it says, has left the tables of the book after it, and printed what the book says
 pub record Stepped (n i : ℕ) (l : Line) (t t′ : Tables) (at : ℕ) (out : List ℕ) (end : ℕ) (out′ : List ℕ) : Type 0 where
-  pub left : t′ ≡ filled scale n (next (bookOf n t) l .links)
+  pub left : t′ ≡ filled scale n (next (bookOf n t) l .layout)
   pub printed : Printed (said i (bookOf n t) l) at out end out′
 
 -- a text that is read, its lines from place `first` on, and an output with room for them behind place `at`

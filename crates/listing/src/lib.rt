@@ -9,8 +9,7 @@ ghost use mathlib.Core.Bool.{true};
 ghost use lib.ListN.{drop};
 ghost use mathlib.Core.List.{_++_};
 ghost use Rattle.book.specs.Hall.{mostStops, upTo};
-ghost use Rattle.book.specs.Book.{noLinks};
-ghost use Rattle.words.specs.Text.{longest, lines, hallLine, report};
+ghost use Rattle.words.specs.Text.{longest, lines, hallLine, emptyBook, report};
 ghost use Rattle.print.specs.Promise.{Printed};
 ghost use Rattle.listing.specs.Promise.{room, Ready, wrote};
 
@@ -35,9 +34,10 @@ pub fn bounds_agree()
 fn hall(n: u64, text: &[u8], first: usize, out: &mut [u8]) -> usize
     requires { ⌜ upTo mostStops n ≡ true ⌝ }
     requires { ⌜ Ready (now text) first (now out) 0 ⌝ }
-    ensures { λ r. ⌜ Printed (hallLine n ++ report 2 (noLinks n) (lines (drop first (now (text .entry))))) 0 (now (out .entry)) r (now (out .exit)) ⌝ }
+    ensures { λ r. ⌜ Printed (hallLine n ++ report 2 (emptyBook n) (lines (drop first (now (text .entry))))) 0 (now (out .entry)) r (now (out .exit)) ⌝ }
 {
     let mut cost = [0u32; Hall::CELLS];
+    let passing = [0u32; Hall::STOPS];
     let mut time = [0u32; Hall::CELLS];
     let mut ways = [0u32; Hall::CELLS];
     let mut share = [0u64; Hall::CELLS];
@@ -52,6 +52,7 @@ fn hall(n: u64, text: &[u8], first: usize, out: &mut [u8]) -> usize
         out,
         at,
         &mut cost[..cells],
+        &passing[..k],
         &mut time[..cells],
         &mut ways[..cells],
         &mut share[..cells],

@@ -13,20 +13,21 @@ pub fn edit_list(
     n: u64,
     list: &[Edit],
     cost: &mut [u32],
+    passing: &[u32],
     time: &mut [u32],
     ways: &mut [u32],
     share: &mut [u64],
     score: &mut [u64],
 ) -> ListAnswer
-    ensures { λ r. ⌜ Done (record { n = n; ask = editList (now (list .entry)) }) (found cost time ways share score) (left cost time ways share score) (ofList r) ⌝ }
+    ensures { λ r. ⌜ Done (record { n = n; ask = editList (now (list .entry)) }) (found cost passing time ways share score) (left cost passing time ways share score) (ofList r) ⌝ }
 {
     let length = list.len();
     let count = turns(length);
-    let mut course = begin(n, length, cost, time, ways, share, score);
+    let mut course = begin(n, length, cost, passing, time, ways, share, score);
     let mut i = 0;
     while i < count {
-        course = turn(n, list[i], course, cost, time, ways, share, score);
+        course = turn(n, list[i], course, cost, passing, time, ways, share, score);
         i = i + 1;
     }
-    finish(n, course, cost, time, ways, share, score)
+    finish(n, course, cost, passing, time, ways, share, score)
 }

@@ -18,6 +18,12 @@ use calls::call::MOVE_OVER;
 use calls::call::RAISE;
 use calls::call::WORK_OUT;
 use calls::call::edit_of;
+use calls::lengths::COST;
+use calls::lengths::PASSING;
+use calls::lengths::SCORE;
+use calls::lengths::SHARE;
+use calls::lengths::TIME;
+use calls::lengths::WAYS;
 use calls::lengths::single;
 use calls::lengths::square;
 use calls::list::List;
@@ -52,6 +58,23 @@ pub fn check(image: &[u8], n: u64) -> Answer
     of_refusal(image_check(image, n))
 }
 
+// A route list from u to v.
+fn routes(
+    call: Call,
+    cost: &[u32],
+    passing: &[u32],
+    time: &[u32],
+    ways: &[u32],
+    share: &[u64],
+    score: &[u64],
+    buffer: &mut [u8],
+) -> Answer {
+    let n = call.n;
+    let s = call.u;
+    let t = call.v;
+    of_write(list_routes(n, s, t, cost, passing, time, ways, share, score, buffer))
+}
+
 // On lent tables. A list call takes the list, an image read and an image check the image, an image write and a route list the
 // buffer.
 fn on_lent(
@@ -60,27 +83,26 @@ fn on_lent(
     image: &[u8],
     buffer: &mut [u8],
     cost: &mut [u32],
+    passing: &[u32],
     time: &mut [u32],
     ways: &mut [u32],
     share: &mut [u64],
     score: &mut [u64],
 ) -> Answer {
     let n = call.n;
-    let s = call.u;
-    let t = call.v;
     let number = call.number;
     match number {
-        EMPTY_HALL => of_refusal(empty_hall(n, cost, time, ways, share, score)),
-        WORK_OUT => of_refusal(work_out(n, cost, time, ways, share, score)),
-        AUDIT => of_refusal(audit(n, cost, time, ways, share, score)),
+        EMPTY_HALL => of_refusal(empty_hall(n, cost, passing, time, ways, share, score)),
+        WORK_OUT => of_refusal(work_out(n, cost, passing, time, ways, share, score)),
+        AUDIT => of_refusal(audit(n, cost, passing, time, ways, share, score)),
         INSERT | CHEAPEN | RAISE | DELETE => {
-            of_edit(edit(n, edit_of(call), cost, time, ways, share, score))
+            of_edit(edit(n, edit_of(call), cost, passing, time, ways, share, score))
         }
-        EDIT_LIST => of_list(edit_flat(n, list, cost, time, ways, share, score)),
-        IMAGE_WRITE => of_write(image_write(n, cost, time, ways, share, score, buffer)),
-        IMAGE_READ => of_refusal(image_read(n, image, cost, time, ways, share, score)),
+        EDIT_LIST => of_list(edit_flat(n, list, cost, passing, time, ways, share, score)),
+        IMAGE_WRITE => of_write(image_write(n, cost, passing, time, ways, share, score, buffer)),
+        IMAGE_READ => of_refusal(image_read(n, image, cost, passing, time, ways, share, score)),
         MOVE_OVER => of_refusal(move_over(n, cost, time, ways, share, score)),
-        LIST_ROUTES => of_write(list_routes(n, s, t, cost, time, ways, share, score, buffer)),
+        LIST_ROUTES => routes(call, cost, passing, time, ways, share, score, buffer),
         _ => check(image, n),
     }
 }
@@ -94,24 +116,27 @@ fn on_parts(
     image: &[u8],
     buffer: &mut [u8],
     cost: &mut [u32],
+    passing: &[u32],
     time: &mut [u32],
     ways: &mut [u32],
     share: &mut [u64],
     score: &mut [u64],
 ) -> Answer
-    requires { ⌜ Room (now cost) (now time) (now ways) (now share) (now score) ⌝ }
+    requires { ⌜ Room (now cost) (now passing) (now time) (now ways) (now share) (now score) ⌝ }
 {
-    let p = square(stops, odd, 1);
-    let q = square(stops, odd, 2);
-    let r = square(stops, odd, 3);
-    let s = square(stops, odd, 4);
-    let e = single(stops, odd);
+    let p = square(stops, odd, COST);
+    let q = square(stops, odd, TIME);
+    let r = square(stops, odd, WAYS);
+    let s = square(stops, odd, SHARE);
+    let e = single(stops, odd, SCORE);
+    let l = single(stops, odd, PASSING);
     on_lent(
         call,
         list,
         image,
         buffer,
         &mut cost[0..p],
+        &passing[0..l],
         &mut time[0..q],
         &mut ways[0..r],
         &mut share[0..s],
@@ -128,6 +153,7 @@ fn on_arrays(
     image: &[u8],
     buffer: &mut [u8],
     cost: &mut [u32; CELLS],
+    passing: &[u32; STOPS],
     time: &mut [u32; CELLS],
     ways: &mut [u32; CELLS],
     share: &mut [u64; CELLS],
@@ -141,6 +167,7 @@ fn on_arrays(
         image,
         buffer,
         cost,
+        passing,
         time,
         ways,
         share,
@@ -170,6 +197,7 @@ pub fn make(
     let k = numbers_of(list.length);
     let numbers = list.numbers;
     let mut cost = t.cost;
+    let passing = t.passing;
     let mut time = t.time;
     let mut ways = t.ways;
     let mut share = t.share;
@@ -182,17 +210,17 @@ pub fn make(
         image,
         buffer,
         &mut cost,
+        &passing,
         &mut time,
         &mut ways,
         &mut share,
         &mut score,
     );
-    let tables = Tables {
-        cost,
-        time,
-        ways,
-        share,
-        score,
-    };
+    let mut tables = t;
+    tables.cost = cost;
+    tables.time = time;
+    tables.ways = ways;
+    tables.share = share;
+    tables.score = score;
     Done { answer, tables }
 }

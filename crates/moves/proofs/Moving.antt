@@ -1,7 +1,7 @@
 -- The moving call, from its tests to what it promises; and the loop that divides. Assumes nothing.
 use Prim.Native.Nat.{ℕ, _/_, _≤_}
 use native.Mathlib.Omega.{arith}
-use mathlib.Core.Path.{_≡_, refl, sym, _∙_, ap}
+use mathlib.Core.Path.{_≡_, refl, sym, _∙_, ap, subst}
 use mathlib.Core.Bool.{true, false}
 use mathlib.Core.List.{List}
 use lib.Dec.{leb}
@@ -10,11 +10,11 @@ use lib.Seq.{ext-getD}
 use Rattle.routes.specs.Route.{allTo}
 use Rattle.routes.specs.Stored.{Stored}
 use Rattle.routes.proofs.Tests.{all-flat}
-use Rattle.book.specs.Hall.{Tables, mostWays, oldMostWays, oldScale, oldPerNew, divided, entry, sized, right}
+use Rattle.book.specs.Hall.{Tables, mostStops, mostWays, oldMostWays, oldScale, oldPerNew, divided, upTo, entry, sized, validPassing, noPassing, right}
 use Rattle.book.specs.Call.{accepted, need, chain, rule, refusal, Done}
 use Rattle.book.specs.Contract.{tables, ofRefusal}
 use Rattle.book.specs.declared.Refusal.{Refusal}
-use Rattle.book.specs.declared.Refusal.the-variants.{Accepted, TooManyWays}
+use Rattle.book.specs.declared.Refusal.the-variants.{Accepted, BadSize, TooManyWays}
 use Rattle.book.proofs.Sizes.{lengths}
 use Rattle.book.proofs.Refused.{refused-done}
 use Rattle.book.proofs.Doors.{tests-passed, tests-refused, accepted-done}
@@ -32,16 +32,29 @@ stored-divided {k} {old} {now} end s =
     (λ i l. s .done i (omega (arith, s .long)) ∙ sym (List·getD-map (λ x. x / oldPerNew) old i 0))
 
 module _ (n : ℕ) (cost time ways share score : List ℕ) where
-  abbrev t : Tables
-  t = tables cost time ways share score
+  abbrev with : List ℕ → Tables
+  with passing = tables cost passing time ways share score
 
-  abbrev Tested : Refusal → Type 0
-  Tested r = r ≡ chain n (sized n t) (right oldScale oldMostWays n t) Accepted
+  -- the tables that it is lent: every passing time is 0
+  abbrev t : Tables
+  t = with (noPassing n)
+
+  abbrev pub Tested : Refusal → Type 0
+  Tested r = r ≡ chain n (sized n t) (validPassing n (noPassing n)) (right oldScale oldMostWays n t) Accepted
+
+  -- a table of its own that holds these
+  pub tested : {none : List ℕ} {r : Refusal} → none ≡ noPassing n → r ≡ chain n (sized n (with none)) (validPassing n none) (right oldScale oldMostWays n (with none)) Accepted → Tested r
+  tested {none} {r} e told = subst (λ p. r ≡ chain n (sized n (with p)) (validPassing n p) (right oldScale oldMostWays n (with p)) Accepted) e told
+
+  -- no number of stops
+  pub move-sizeless : upTo mostStops n ≡ false → Done (moving n) t t (ofRefusal BadSize)
+  unfolding refusal rule
+  move-sizeless e = refused-done (moving n) t BadSize (rw e) refl
 
   -- refused with 1, 2 or 3
   pub move-shut : {r : Refusal} → Tested r → accepted r ≡ false → Done (moving n) t t (ofRefusal r)
   unfolding rule
-  move-shut {r} e shut = tests-refused (moving n) t (λ s. refl) r e shut
+  move-shut {r} e shut = tests-refused (moving n) t (λ s. refl) refl r e shut
 
   module _ {r : Refusal} (e : Tested r) (ok : accepted r ≡ true) where
     -- behind these comes 11, which the table of ways tells
@@ -49,16 +62,16 @@ module _ (n : ℕ) (cost time ways share score : List ℕ) where
     told =
         let (inside, old) = tests-passed n t (right oldScale oldMostWays n t) e ok in
         let flat : noneAbove mostWays ways ≡ allTo n (λ s. allTo n (λ v. leb (entry n ways s v) mostWays)) = rw (lengths n t (inside .lengths) .counts) (all-flat n n _) in
-        move-eleven n t (inside .size) (inside .lengths) old ∙ ap (λ b. need b TooManyWays Accepted) (sym flat)
+        move-eleven n t refl (inside .size) (inside .lengths) old ∙ ap (λ b. need b TooManyWays Accepted) (sym flat)
 
     pub move-crowded : noneAbove mostWays ways ≡ false → Done (moving n) t t (ofRefusal TooManyWays)
     unfolding rule
     move-crowded many = refused-done (moving n) t TooManyWays (told ∙ rw many) refl
 
     pub move-accepted : noneAbove mostWays ways ≡ true → {share′ score′ : List ℕ} → share′ ≡ divided share → score′ ≡ divided score →
-        Done (moving n) t (tables cost time ways share′ score′) (ofRefusal Accepted)
+        Done (moving n) t (tables cost (noPassing n) time ways share′ score′) (ofRefusal Accepted)
     unfolding rule
     move-accepted few {share′} {score′} shares scores =
         let taken : refusal (moving n) t ≡ Accepted = told ∙ rw few in
-        let left : tables cost time ways share′ score′ ≡ tables cost time ways (divided share) (divided score) = λ i. tables cost time ways (shares i) (scores i) in
-        accepted-done (moving n) t (tables cost time ways share′ score′) (ofRefusal Accepted) taken (left ∙ sym (move-divides n t taken) ∙ move-leaves n t taken) refl
+        let left : tables cost (noPassing n) time ways share′ score′ ≡ tables cost (noPassing n) time ways (divided share) (divided score) = λ i. tables cost (noPassing n) time ways (shares i) (scores i) in
+        accepted-done (moving n) t (tables cost (noPassing n) time ways share′ score′) (ofRefusal Accepted) taken (left ∙ sym (move-divides n t refl taken) ∙ move-leaves n t refl taken) refl

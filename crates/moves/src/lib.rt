@@ -7,7 +7,7 @@ use hall::audit::audit_by;
 ghost use mathlib.Core.Path.{_≡_};
 ghost use Rattle.book.specs.Hall.{divided};
 ghost use Rattle.book.specs.Call.{moveOver, Done};
-ghost use Rattle.book.specs.Contract.{found, leftShares, ofRefusal};
+ghost use Rattle.book.specs.Contract.{foundUnpassed, leftShares, ofRefusal};
 
 // Divides every entry by the quotient of the two scales.
 fn divide(table: &mut [u64])
@@ -18,7 +18,7 @@ fn divide(table: &mut [u64])
     }
 }
 
-// Costs, times and ways are the same by both scales, and only read.
+// Costs, times and ways are the same by both scales, and only read. Halls of the old scale have no passing times: each is 0.
 pub fn move_over(
     n: u64,
     cost: &[u32],
@@ -27,13 +27,18 @@ pub fn move_over(
     share: &mut [u64],
     score: &mut [u64],
 ) -> Refusal
-    ensures { λ r. ⌜ Done (record { n = n; ask = moveOver }) (found cost time ways share score) (leftShares cost time ways share score) (ofRefusal r) ⌝ }
+    ensures { λ r. ⌜ Done (record { n = n; ask = moveOver }) (foundUnpassed n cost time ways share score) (leftShares n cost time ways share score) (ofRefusal r) ⌝ }
 {
+    if !Hall::takes(n) {
+        return Refusal::BadSize;
+    }
+    let none = [0u32; Hall::STOPS];
     let verdict = audit_by(
         Hall::OLD_WAYS,
         Hall::OLD_SCALE,
         n,
         cost,
+        &none[..n as usize],
         time,
         ways,
         share,

@@ -18,7 +18,7 @@ use Rattle.book.proofs.Passed.{permitted}
 use Rattle.book.proofs.Steps.{Held, accepted-book}
 use Rattle.book.specs.declared.Edit.{Edit}
 use Rattle.book.specs.declared.Refusal.{Refusal}
-use Rattle.book.specs.declared.Refusal.the-variants.{Accepted, BadSize, BadLength, BadTables, BadStop, BadCost, LinkPresent, LinkAbsent, CostWrongSide, BadImage, ShortBuffer, TooManyWays, ListTooLong}
+use Rattle.book.specs.declared.Refusal.the-variants.{Accepted, BadSize, BadLength, BadTables, BadStop, BadCost, LinkPresent, LinkAbsent, CostWrongSide, BadImage, ShortBuffer, TooManyWays, ListTooLong, BadPassing}
 use Rattle.words.specs.declared.Line.{Line}
 use Rattle.words.specs.declared.Line.the-variants.{Read, Unread}
 use Rattle.words.specs.Text.{longest, bytes, parts, words, lineOf, decimal, hallLine, editLine, unreadLine, stopLine, said}
@@ -40,6 +40,7 @@ number-short BadImage = lit< tt
 number-short ShortBuffer = lit< tt
 number-short TooManyWays = lit< tt
 number-short ListTooLong = lit< tt
+number-short BadPassing = lit< tt
 
 ones : (n : ℕ) (p : ℕ → Bool) → sumTo n (λ s. cond (p s) 1 0) ≤ n
 ones n p = omega (arith, sumTo-bound n 1 {f = λ s. cond (p s) 1 0} (λ s l. one (p s)))
@@ -49,10 +50,10 @@ ones n p = omega (arith, sumTo-bound n 1 {f = λ s. cond (p s) 1 0} (λ s l. one
     one false = omega arith
 
 -- of an edit of a hall: its number is short where it is refused, its rows and the cost before where it is accepted
-edit-short : (i : ℕ) (x : Edit) (b : Book) → i ≤ longest + 1 → Held (b .stops) (b .links) → length (editLine i (bookAnswer (record { n = b .stops; ask = edit x }) b)) ≤ lineBytes
+edit-short : (i : ℕ) (x : Edit) (b : Book) → i ≤ longest + 1 → Held (b .stops) (b .layout) → length (editLine i (bookAnswer (record { n = b .stops; ask = edit x }) b)) ≤ lineBytes
 unfolding bookAnswer rule bytes
 edit-short i x b h held =
-    reply-either (λ a. length (editLine i a) ≤ lineBytes) (bookRefusal call b) (rule n (edit x) (b .links))
+    reply-either (λ a. length (editLine i a) ≤ lineBytes) (bookRefusal call b) (rule n (edit x) (b .layout))
     (λ ok. simp length-append (omega (arith, line, decimal-below 0 0 (lit< tt), decimal-below 1 rows (omega (arith, few)), decimal-below 4 before (omega (arith, most ok)))))
     (simp length-append (omega (arith, line, decimal-below 1 (number (bookRefusal call b)) (number-short (bookRefusal call b)), decimal-below 0 0 (lit< tt))))
   where
@@ -63,34 +64,34 @@ edit-short i x b h held =
     call = record { n = n; ask = edit x }
 
     rows : ℕ
-    rows = sumTo n (λ s. cond (touched n (b .links) (withEdit n x (b .links)) (x .u) (x .v) s) 1 0)
+    rows = sumTo n (λ s. cond (touched n (b .layout) (withEdit n x (b .layout)) (x .u) (x .v) s) 1 0)
 
     before : ℕ
-    before = entry n (b .links) (x .u) (x .v)
+    before = entry n (b .layout .cost) (x .u) (x .v)
 
     line : length (decimal i) ≤ 5
     line = decimal-below 4 i (omega arith)
 
     few : rows ≤ mostStops
-    few = omega (arith, ones n (touched n (b .links) (withEdit n x (b .links)) (x .u) (x .v)), stops n (held .size) .1)
+    few = omega (arith, ones n (touched n (b .layout) (withEdit n x (b .layout)) (x .u) (x .v)), stops n (held .size) .1)
 
     most : accepted (bookRefusal call b) ≡ true → before ≤ largestCost
     most ok =
-        let p = permitted n x (b .links) (accepted-book call b ok .3) in
-        valid-costs n (b .links) (held .valid) .most (x .u) (x .v) (p .from) (p .to)
+        let p = permitted n x (b .layout) (accepted-book call b ok .4) in
+        valid-costs n (b .layout .cost) (held .valid) .most (x .u) (x .v) (p .from) (p .to)
 
 pub unread-short : (i : ℕ) → i ≤ longest + 1 → length (unreadLine i) ≤ unreadBytes
 unfolding bytes
 unread-short i h = simp length-append (omega (arith, decimal-below 4 i (omega arith)))
 
 -- a line prints at most so much
-pub said-short : (i : ℕ) (b : Book) (l : Line) → i ≤ longest + 1 → Held (b .stops) (b .links) → length (said i b l) ≤ lineBytes
+pub said-short : (i : ℕ) (b : Book) (l : Line) → i ≤ longest + 1 → Held (b .stops) (b .layout) → length (said i b l) ≤ lineBytes
 unfolding said
 said-short i b Unread h held = omega (arith, unread-short i h)
 said-short i b (Read x) h held = edit-short i x b h held
 
 -- and at most an unread line for each of its bytes, its line feed among them: an empty one is unread
-pub said-within : (i : ℕ) (b : Book) (line : List ℕ) → i ≤ longest + 1 → Held (b .stops) (b .links) → length (said i b (lineOf (words line))) ≤ unreadBytes * (length line + 1)
+pub said-within : (i : ℕ) (b : Book) (line : List ℕ) → i ≤ longest + 1 → Held (b .stops) (b .layout) → length (said i b (lineOf (words line))) ≤ unreadBytes * (length line + 1)
 unfolding said lineOf parts
 said-within i b [] h held = omega (arith, unread-short i h)
 said-within i b (x ∷ line) h held = omega (arith, said-short i b (lineOf (words (x ∷ line))) h held)

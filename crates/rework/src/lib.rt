@@ -6,7 +6,9 @@ ghost use mathlib.Core.Bool.{true, false, cond};
 ghost use Prim.Native.Nat.{ℕ, _+_, _*_, _<_, _≤_};
 ghost use lib.ListN.{length, set as put};
 ghost use Rattle.routes.specs.Route.{has};
-ghost use Rattle.book.specs.Hall.{entry, validCosts};
+ghost use Rattle.book.specs.Hall.{entry, validCosts, validPassing};
+ghost use Rattle.book.specs.Call.{withCost};
+ghost use Rattle.book.specs.Contract.{thisLayout, foundLayout};
 ghost use Rattle.tables.specs.Promise.{Measure, Square, FilledAll};
 ghost use Rattle.touch.specs.Promise.{oneLink, Found};
 ghost use Rattle.changes.specs.Promise.{Change, Reworked};
@@ -21,19 +23,21 @@ fn rework(
     all: bool,
     set: u64,
     cost: &[u32],
+    passing: &[u32],
     time: &mut [u32],
     ways: &mut [u32],
     share: &mut [u64],
 ) -> bool
     requires { ⌜ Measure limit scale ⌝ }
     requires { ⌜ (n ≤ 64) × (length (now cost) ≡ n * n) × (validCosts n (now cost) ≡ true) × (u < n) × (v < n) ⌝ }
+    requires { ⌜ (length (now passing) ≡ n) × (validPassing n (now passing) ≡ true) ⌝ }
     requires { ⌜ Square n (now time) (now ways) (now share) ⌝ }
     requires { ⌜ (all ≡ false → 0 < entry n (now cost) u v) × ((s : ℕ) → has set s ≡ true → s < n) ⌝ }
-    ensures { λ r. ⌜ Reworked limit scale n (oneLink u v) all set (now (cost .entry)) (now (time .entry)) (now (ways .entry)) (now (share .entry)) (now (time .exit)) (now (ways .exit)) (now (share .exit)) r ⌝ }
+    ensures { λ r. ⌜ Reworked limit scale n (oneLink u v) all set (foundLayout cost passing) (now (time .entry)) (now (ways .entry)) (now (share .entry)) (now (time .exit)) (now (ways .exit)) (now (share .exit)) r ⌝ }
 {
     let mut out = [0u64; 64];
     touch::choose_links(n, u, v, all, cost, time, &mut out);
-    rows::fill_rows(limit, scale, n, set, cost, &out, time, ways, share)
+    rows::fill_rows(limit, scale, n, set, cost, passing, &out, time, ways, share)
 }
 
 // Gives the link u to v its new cost and works the touched rows out. Where a pair has more ways than the limit then, it says false,
@@ -47,15 +51,16 @@ pub fn try_cost(
     new: u32,
     set: u64,
     cost: &mut [u32],
+    passing: &[u32],
     time: &mut [u32],
     ways: &mut [u32],
     share: &mut [u64],
 ) -> bool
     requires { ⌜ Measure limit scale ⌝ }
-    requires { ⌜ Change limit scale n u v new (now cost) (now time) (now ways) (now share) ⌝ }
-    requires { ⌜ Found n u v new (now cost) (now time) set ⌝ }
+    requires { ⌜ Change limit scale n u v new (thisLayout cost passing) (now time) (now ways) (now share) ⌝ }
+    requires { ⌜ Found n u v new (now cost) (now passing) (now time) set ⌝ }
     ensures { λ r. ⌜
-        FilledAll limit scale n (put (now (cost .entry)) (u * n + v) new)
+        FilledAll limit scale n (withCost n u v new (foundLayout cost passing))
         (now (time .entry)) (now (ways .entry)) (now (share .entry)) (now (time .exit)) (now (ways .exit)) (now (share .exit)) r ×
         (now (cost .exit) ≡ cond r (put (now (cost .entry)) (u * n + v) new) (now (cost .entry)))
         ⌝ }
@@ -64,10 +69,36 @@ pub fn try_cost(
     let old = cost[at];
     cost[at] = new;
     let up = touch::dearer(old, new);
-    if !rework(limit, scale, n, u, v, up, set, cost, time, ways, share) {
+    if !rework(
+        limit,
+        scale,
+        n,
+        u,
+        v,
+        up,
+        set,
+        cost,
+        passing,
+        time,
+        ways,
+        share,
+    ) {
         return true;
     }
     cost[at] = old;
-    rework(limit, scale, n, u, v, true, set, cost, time, ways, share);
+    rework(
+        limit,
+        scale,
+        n,
+        u,
+        v,
+        true,
+        set,
+        cost,
+        passing,
+        time,
+        ways,
+        share,
+    );
     false
 }

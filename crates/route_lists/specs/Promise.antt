@@ -6,32 +6,37 @@ use mathlib.Core.List.{List}
 use lib.Dec.{eqb}
 use lib.ListN.{length}
 use Rattle.routes.specs.Route.{sumTo}
-use Rattle.book.specs.Hall.{mostWays, scale, entry, filled, validCosts, uncrowded}
+use Rattle.book.specs.Hall.{Layout, mostWays, scale, entry, filled, validCosts, validPassing, uncrowded}
+use Rattle.route_walk.specs.Promise.{onFrom}
 
--- two stops, and tables of times and ways with few ways
-pub record Counted (n s t : ℕ) (time ways : List ℕ) : Type 0 where
+-- two stops, passing times, and tables of times and ways with few ways
+pub record Counted (n s t : ℕ) (passing time ways : List ℕ) : Type 0 where
   pub most : n ≤ 64
   pub from : s < n
   pub to : t < n
+  pub long : length passing ≡ n
   pub times : length time ≡ n * n
   pub counts : length ways ≡ n * n
   pub few : (u v : ℕ) → u < n → v < n → entry n ways u v ≤ mostWays
 
--- how many quickest routes pass a stop: the ways to it times the ways on from it where the times add up, and none elsewhere
-abbrev pub passingBy : (near far all coming going : ℕ) → ℕ
-passingBy near far all coming going = cond (eqb (near + far) all) (coming * going) 0
+-- how many quickest routes visit a stop: the ways to it times the ways on from it where the times add up, the one on from it with what it
+-- takes to pass it, and none elsewhere
+abbrev pub visitingBy : (near far all coming going : ℕ) → ℕ
+visitingBy near far all coming going = cond (eqb (near + far) all) (coming * going) 0
 
 -- the sum over all stops
-abbrev pub stopsInAll : (n s t : ℕ) → (time ways : List ℕ) → ℕ
-stopsInAll n s t time ways = sumTo n (λ v. passingBy (entry n time s v) (entry n time v t) (entry n time s t) (entry n ways s v) (entry n ways v t))
+abbrev pub stopsInAll : (n s t : ℕ) → (passing time ways : List ℕ) → ℕ
+stopsInAll n s t passing time ways = sumTo n (λ v. visitingBy (entry n time s v) (onFrom n s t passing time v) (entry n time s t) (entry n ways s v) (entry n ways v t))
 
--- two stops, and the costs, times and ways of right tables
-pub record Listable (n s t : ℕ) (cost time ways : List ℕ) : Type 0 where
+-- two stops, and the layout, times and ways of right tables
+pub record Listable (n s t : ℕ) (l : Layout) (time ways : List ℕ) : Type 0 where
   pub most : n ≤ 64
   pub from : s < n
   pub to : t < n
-  pub square : length cost ≡ n * n
-  pub valid : validCosts n cost ≡ true
-  pub few : uncrowded mostWays n cost ≡ true
-  pub times : time ≡ filled scale n cost .time
-  pub counts : ways ≡ filled scale n cost .ways
+  pub square : length (l .cost) ≡ n * n
+  pub long : length (l .passing) ≡ n
+  pub valid : validCosts n (l .cost) ≡ true
+  pub passable : validPassing n (l .passing) ≡ true
+  pub few : uncrowded mostWays n l ≡ true
+  pub times : time ≡ filled scale n l .time
+  pub counts : ways ≡ filled scale n l .ways

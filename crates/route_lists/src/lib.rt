@@ -4,41 +4,42 @@ use book::WriteAnswer;
 use book::number_of::passes;
 use cells::places::read_entry;
 use hall::audit::audit;
+use route_walk::on_from;
 use route_walk::put_routes;
 ghost use mathlib.Core.Path.{_≡_};
-ghost use Prim.Native.Nat.{_≤_};
+ghost use Prim.Native.Nat.{_^_, _<_, _≤_};
 ghost use lib.ListN.{length};
 ghost use lib.Seq.{sets};
 ghost use Rattle.book.specs.Hall.{mostWays, routeList};
 ghost use Rattle.book.specs.Call.{listRoutes, Done};
-ghost use Rattle.book.specs.Contract.{found, ofWrite, stored};
-ghost use Rattle.route_lists.specs.Promise.{passingBy, Counted, Listable, stopsInAll};
+ghost use Rattle.book.specs.Contract.{thisLayout, foundLayout, found, ofWrite, stored};
+ghost use Rattle.route_lists.specs.Promise.{visitingBy, Counted, Listable, stopsInAll};
 
-// How many of the routes pass a stop: near and coming are the time and the ways to it, far and going those on from it, and all is the
-// time of the whole.
-fn passing(near: u32, far: u32, all: u32, coming: u32, going: u32) -> usize
-    requires { ⌜ (coming ≤ mostWays) × (going ≤ mostWays) ⌝ }
-    ensures { λ r. ⌜ r ≡ passingBy near far all coming going ⌝ }
+// How many of the routes visit a stop: near and coming are the time and the ways to it, far and going those on from it, far with what it
+// takes to pass it, and all is the time of the whole.
+fn visiting(near: u32, far: u64, all: u32, coming: u32, going: u32) -> usize
+    requires { ⌜ (far < 2 ^ 33) × (coming ≤ mostWays) × (going ≤ mostWays) ⌝ }
+    ensures { λ r. ⌜ r ≡ visitingBy near far all coming going ⌝ }
 {
-    if near as u64 + far as u64 != all as u64 {
+    if near as u64 + far != all as u64 {
         return 0;
     }
     (coming * going) as usize
 }
 
-// How many stops the routes have in all: each stop counts once for every route that passes it.
-fn stops_in_all(n: usize, s: usize, t: usize, time: &[u32], ways: &[u32]) -> usize
-    requires { ⌜ Counted n s t (now time) (now ways) ⌝ }
-    ensures { λ r. ⌜ r ≡ stopsInAll n s t (now (time .entry)) (now (ways .entry)) ⌝ }
+// How many stops the routes have in all: each stop counts once for every route that visits it.
+fn stops_in_all(n: usize, s: usize, t: usize, passing: &[u32], time: &[u32], ways: &[u32]) -> usize
+    requires { ⌜ Counted n s t (now passing) (now time) (now ways) ⌝ }
+    ensures { λ r. ⌜ r ≡ stopsInAll n s t (now (passing .entry)) (now (time .entry)) (now (ways .entry)) ⌝ }
 {
     let all = read_entry(n, s, t, time);
     let mut stops = 0;
     for v in 0..n {
         let near = read_entry(n, s, v, time);
-        let far = read_entry(n, v, t, time);
+        let far = on_from(n, s, t, v, passing, time);
         let coming = read_entry(n, s, v, ways);
         let going = read_entry(n, v, t, ways);
-        stops += passing(near, far, all, coming, going);
+        stops += visiting(near, far, all, coming, going);
     }
     stops
 }
@@ -49,15 +50,16 @@ fn put_list(
     s: usize,
     t: usize,
     cost: &[u32],
+    passing: &[u32],
     time: &[u32],
     ways: &[u32],
     buffer: &mut [u8],
 )
-    requires { ⌜ Listable n s t (now cost) (now time) (now ways) × (length (routeList n (now cost) s t) ≤ length (now buffer)) ⌝ }
-    ensures { λ r. ⌜ now (buffer .exit) ≡ sets (now (buffer .entry)) 0 (routeList n (now (cost .entry)) s t) ⌝ }
+    requires { ⌜ Listable n s t (thisLayout cost passing) (now time) (now ways) × (length (routeList n (thisLayout cost passing) s t) ≤ length (now buffer)) ⌝ }
+    ensures { λ r. ⌜ now (buffer .exit) ≡ sets (now (buffer .entry)) 0 (routeList n (foundLayout cost passing) s t) ⌝ }
 {
     buffer[0] = read_entry(n, s, t, ways) as u8;
-    put_routes(n, s, t, cost, time, 1, buffer);
+    put_routes(n, s, t, cost, passing, time, 1, buffer);
 }
 
 // Stores the list where it fits. Else nothing is written.
@@ -66,22 +68,23 @@ fn store(
     s: usize,
     t: usize,
     cost: &[u32],
+    passing: &[u32],
     time: &[u32],
     ways: &[u32],
     buffer: &mut [u8],
 ) -> WriteAnswer
-    requires { ⌜ Listable n s t (now cost) (now time) (now ways) ⌝ }
-    ensures { λ r. ⌜ ofWrite r (now (buffer .exit)) ≡ stored (routeList n (now (cost .entry)) s t) (now (buffer .entry)) ⌝ }
+    requires { ⌜ Listable n s t (thisLayout cost passing) (now time) (now ways) ⌝ }
+    ensures { λ r. ⌜ ofWrite r (now (buffer .exit)) ≡ stored (routeList n (foundLayout cost passing) s t) (now (buffer .entry)) ⌝ }
 {
     let routes = read_entry(n, s, t, ways) as usize;
-    let length = 1 + routes + stops_in_all(n, s, t, time, ways);
+    let length = 1 + routes + stops_in_all(n, s, t, passing, time, ways);
     if buffer.len() < length {
         return WriteAnswer {
             refusal: Refusal::ShortBuffer,
             length: 0,
         };
     }
-    put_list(n, s, t, cost, time, ways, buffer);
+    put_list(n, s, t, cost, passing, time, ways, buffer);
     WriteAnswer {
         refusal: Refusal::Accepted,
         length,
@@ -95,15 +98,16 @@ pub fn list_routes(
     s: u64,
     t: u64,
     cost: &[u32],
+    passing: &[u32],
     time: &[u32],
     ways: &[u32],
     share: &[u64],
     score: &[u64],
     buffer: &mut [u8],
 ) -> WriteAnswer
-    ensures { λ r. ⌜ Done (record { n = n; ask = listRoutes s t (now (buffer .entry)) }) (found cost time ways share score) (found cost time ways share score) (ofWrite r (now (buffer .exit))) ⌝ }
+    ensures { λ r. ⌜ Done (record { n = n; ask = listRoutes s t (now (buffer .entry)) }) (found cost passing time ways share score) (found cost passing time ways share score) (ofWrite r (now (buffer .exit))) ⌝ }
 {
-    let verdict = audit(n, cost, time, ways, share, score);
+    let verdict = audit(n, cost, passing, time, ways, share, score);
     if !passes(verdict) {
         return WriteAnswer {
             refusal: verdict,
@@ -122,5 +126,14 @@ pub fn list_routes(
             length: 0,
         };
     }
-    store(n as usize, s as usize, t as usize, cost, time, ways, buffer)
+    store(
+        n as usize,
+        s as usize,
+        t as usize,
+        cost,
+        passing,
+        time,
+        ways,
+        buffer,
+    )
 }

@@ -1,32 +1,43 @@
 -- What the walk over the quickest routes promises. Assumes nothing.
 use Prim.Native.Nat.{ℕ, _+_, _*_, _-_, _<_, _≤_}
 use mathlib.Core.Path.{_≡_}
-use mathlib.Core.Bool.{Bool, true, false}
+use mathlib.Core.Bool.{Bool, true, false, cond}
 use mathlib.Core.List.{List, []}
+use lib.Dec.{eqb}
 use lib.ListN.{length, take}
 use lib.Seq.{sets}
+use Rattle.routes.specs.Route.{Costs}
 use Rattle.routes.specs.Walk.{earlierThan, leads, walk, walkFrom}
-use Rattle.book.specs.Hall.{entry, routeBytes}
+use Rattle.links.specs.Promise.{stay}
+use Rattle.book.specs.Hall.{laid, entry, costsIn, routeBytes}
 
-module _ (n s t : ℕ) (cost time : List ℕ) where
-  -- the costs and the times of a hall, its first stop s and its last stop t
+-- the time from y on to t on a route from s, with what it takes to pass y; at t nothing is left
+abbrev pub onFrom : (n s t : ℕ) → (passing time : List ℕ) → ℕ → ℕ
+onFrom n s t passing time y = cond (eqb y t) 0 (stay s passing y + entry n time y t)
+
+module _ (n s t : ℕ) (cost passing time : List ℕ) where
+  -- the costs, the passing times and the times of a hall, its first stop s and its last stop t
   pub record Ready : Type 0 where
     pub most : n ≤ 64
     pub from : s < n
     pub to : t < n
     pub square : length cost ≡ n * n
+    pub long : length passing ≡ n
     pub times : length time ≡ n * n
 
-  -- the times from s, and to t
+  -- the costs as they count on routes from s, the times from s, and those on to t
+  abbrev pub fromS : Costs
+  fromS = costsIn n (laid cost passing) s
+
   abbrev pub near : ℕ → ℕ
   near x = entry n time s x
 
   abbrev pub far : ℕ → ℕ
-  far x = entry n time x t
+  far = onFrom n s t passing time
 
   -- the link u to y leads on
   abbrev pub leadsOn : ℕ → ℕ → Bool
-  leadsOn u y = leads (entry n cost) n near far t u y
+  leadsOn u y = leads fromS n near far t u y
 
   -- y is the first stop, counted from `from`, to which a link from u leads on, n where there is none
   pub record Next (u from y : ℕ) : Type 0 where
@@ -36,7 +47,7 @@ module _ (n s t : ℕ) (cost time : List ℕ) where
     pub one : y < n → leadsOn u y ≡ true
 
   -- the walk stands at u, behind the first k stops of a path, which has room for all that may come: no more stops stand in front of u than
-  -- have a lower time; the times from s to u and from u to t add up, so that u is no dead end
+  -- have a lower time; the times from s to u and from u on to t add up, so that u is no dead end
   pub record Standing (k u : ℕ) (path : List ℕ) : Type 0 where
     pub ready : Ready
     pub inside : u < n
@@ -47,10 +58,10 @@ module _ (n s t : ℕ) (cost time : List ℕ) where
   -- the routes that go on from u behind the stops p, at most m stops from u on; and those that go on from u, the last stop of p, by a link
   -- to a stop counted from `from`, at most m stops behind u
   abbrev pub routesFrom : (m : ℕ) → (p : List ℕ) → (u : ℕ) → List (List ℕ)
-  routesFrom m p u = walk (entry n cost) n near far t m p u
+  routesFrom m p u = walk fromS n near far t m p u
 
   abbrev pub routesAlong : (m : ℕ) → (p : List ℕ) → (u from : ℕ) → List (List ℕ)
-  routesAlong m p u from = walkFrom (entry n cost) n near far t m p u from
+  routesAlong m p u from = walkFrom fromS n near far t m p u from
 
   -- their bytes, where u stands behind the first k stops of a path, and where it is the last of the first k + 1
   abbrev pub bytesFrom : (k : ℕ) → (path : List ℕ) → (u : ℕ) → List ℕ

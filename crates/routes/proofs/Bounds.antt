@@ -153,13 +153,13 @@ open-le W n s limit scale v = go (eqb v s)
     go true = omega arith
     go false = sumTo-le n (λ t l. closed (ltb limit (ways W n s t)) (portion W n s scale v t))
 
--- a score is at most (n - 1) (n - 2) times the scale
-pub score-le : (W : Costs) (n scale v : ℕ) → v < n → ((s : ℕ) → s < n → Flows W n s) →
-    score W n scale v ≤ (n - 1) * ((n - 2) * scale)
+-- a score is at most (n - 1) (n - 2) times the scale, whatever the costs on routes from each source
+pub score-le : (C : ℕ → Costs) (n scale v : ℕ) → v < n → ((s : ℕ) → s < n → Flows (C s) n s) →
+    score C n scale v ≤ (n - 1) * ((n - 2) * scale)
 unfolding score
-score-le W n scale v l F =
+score-le C n scale v l F =
     but
-    (sumTo n (λ s. share W n s scale v))
+    (sumTo n (λ s. share (C s) n s scale v))
     n
     1
     ((n - 2) * scale)
@@ -169,19 +169,19 @@ score-le W n scale v l F =
           n
           ((n - 2) * scale)
           v
-          (λ s. share W n s scale v)
+          (λ s. share (C s) n s scale v)
           l
-          (share-own W n scale v)
-          (λ s k. share-le W n s (F s k) scale v k l),
+          (share-own (C v) n scale v)
+          (λ s k. share-le (C s) n s (F s k) scale v k l),
     ))
 
 -- in a hall of at most 64 stops a score is at most 63 × 62 times the scale
-module _ (W : Costs) (n scale v : ℕ) (small : n ≤ 64) (inside : v < n) where
-  pub score-limit : ((s : ℕ) → s < n → Flows W n s) → score W n scale v ≤ 3906 * scale
+module _ (C : ℕ → Costs) (n scale v : ℕ) (small : n ≤ 64) (inside : v < n) where
+  pub score-limit : ((s : ℕ) → s < n → Flows (C s) n s) → score C n scale v ≤ 3906 * scale
   score-limit F =
       omega (
         arith,
-        score-le W n scale v inside F,
+        score-le C n scale v inside F,
         mul-le-mul-right {m = n - 2} {n = 62} scale (omega arith),
         mul-le-mul-right {m = n - 1} {n = 63} ((n - 2) * scale) (omega arith),
       )

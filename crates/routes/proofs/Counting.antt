@@ -4,7 +4,7 @@ use Prim.Native.Nat.{ℕ, zero, suc, _+_, _<_, _≤_, min}
 use native.Mathlib.Nat.{zero-add, add-comm, lt-irrefl}
 use native.Mathlib.Omega.{arith}
 use mathlib.Core.Path.{_≡_, refl, sym, _∙_, ap₂, subst⁻¹}
-use mathlib.Core.Bool.{Bool, true, false, cond, not, _&&_}
+use mathlib.Core.Bool.{Bool, true, false, cond, not, _&&_, true≢false}
 use mathlib.Core.List.{List, [], _∷_, _++_}
 use lib.Dec.{eqb, ltb}
 use borrow.Author.Tests.{eq-eqb, ltb-true, ltb-false}
@@ -69,6 +69,29 @@ unfolding count
 count-cong [] h = refl
 count-cong (a ∷ l) h =
     ap₂ (λ b k. cond b 1 0 + k) (h a (here a l)) (count-cong l (λ r m. h r (there r a l m)))
+
+-- a property that each member with p has counts no fewer, and where it counts as many, the members with it are those with p
+count-le : (l : List (List ℕ)) {p q : List ℕ → Bool} → ((r : List ℕ) → 0 < count (same r) l → p r ≡ true → q r ≡ true) → count p l ≤ count q l
+unfolding count
+count-le [] h = omega arith
+count-le (a ∷ l) {p} {q} h = go (p a) refl (count-le l (λ r m. h r (there r a l m)))
+  where
+    go : (b : Bool) → p a ≡ b → count p l ≤ count q l → cond b 1 0 + count p l ≤ cond (q a) 1 0 + count q l
+    go true e k = omega (arith, cond-true {A = ℕ} 1 0 (h a (here a l) e))
+    go false e k = omega arith
+
+pub count-agree : (l : List (List ℕ)) {p q : List ℕ → Bool} → ((r : List ℕ) → 0 < count (same r) l → p r ≡ true → q r ≡ true) → count p l ≡ count q l
+    → (r : List ℕ) → 0 < count (same r) l → p r ≡ q r
+unfolding count
+count-agree [] h e r m = absurd (lt-irrefl 0 m)
+count-agree (a ∷ l) {p} {q} h e r m = go (p a) refl (q a) refl e (count-le l (λ r m. h r (there r a l m))) (λ e. count-agree l (λ r m. h r (there r a l m)) e)
+  where
+    go : (b : Bool) → p a ≡ b → (c : Bool) → q a ≡ c → cond b 1 0 + count p l ≡ cond c 1 0 + count q l → count p l ≤ count q l
+        → (count p l ≡ count q l → (r : List ℕ) → 0 < count (same r) l → p r ≡ q r) → p r ≡ q r
+    go true f true g e k on = each {P = λ r. p r ≡ q r} a l (f ∙ sym g) (on (omega arith)) r m
+    go true f false g e k on = absurd (true≢false (sym (h a (here a l) f) ∙ g))
+    go false f true g e k on = absurd (omega arith)
+    go false f false g e k on = each {P = λ r. p r ≡ q r} a l (f ∙ sym g) (on (omega arith)) r m
 
 -- a member with the property makes the count positive
 pub count-positive : (p : List ℕ → Bool) (l : List (List ℕ)) (r : List ℕ)

@@ -1,10 +1,10 @@
--- Two halls whose tables were worked out by hand: the definitions compute the same. Assumes nothing.
+-- Three halls whose tables were worked out by hand, one of them with passing times: the definitions compute the same. Assumes nothing.
 use Prim.Native.Nat.{ℕ, _+_, _*_, _/_}
 use mathlib.Core.Path.{_≡_, refl}
 use mathlib.Core.Bool.{true, false}
 use mathlib.Core.List.{List, [], _∷_}
 use lib.ListN.{getD}
-use Rattle.routes.specs.Route.{Costs, mark, sumTo, joinTo, listTo, count, visits, time, least, extend, hops, routes, leastTime, quickest, ways, through, portion, share, score}
+use Rattle.routes.specs.Route.{Costs, mark, sumTo, joinTo, listTo, count, visits, time, passed, costsFrom, least, extend, hops, routes, leastTime, quickest, ways, through, portion, share, score}
 use Rattle.routes.specs.Equations.{tight}
 use Rattle.routes.specs.Walk.{leads, walk}
 
@@ -47,7 +47,7 @@ diamond-shares : table 4 (λ s. share diamond 4 s L) ≡
 unfolding sumTo joinTo listTo count time least extend visits hops routes leastTime quickest ways through portion share
 diamond-shares = refl
 
-diamond-scores : listTo 4 (score diamond 4 L) ≡ 0 ∷ L / 2 ∷ L / 2 ∷ 0 ∷ []
+diamond-scores : listTo 4 (score (λ s. diamond) 4 L) ≡ 0 ∷ L / 2 ∷ L / 2 ∷ 0 ∷ []
 unfolding sumTo joinTo listTo count time least extend visits hops routes leastTime quickest ways through portion share score
 diamond-scores = refl
 
@@ -96,6 +96,34 @@ ties-shares : table 5 (λ s. share ties 5 s L) ≡
 unfolding sumTo joinTo listTo count time least extend visits hops routes leastTime quickest ways through portion share
 ties-shares = refl
 
-ties-scores : listTo 5 (score ties 5 L) ≡ 0 ∷ 7 * L / 3 ∷ 11 * L / 6 ∷ 3 * L ∷ 0 ∷ []
+ties-scores : listTo 5 (score (λ s. ties) 5 L) ≡ 0 ∷ 7 * L / 3 ∷ 11 * L / 6 ∷ 3 * L ∷ 0 ∷ []
 unfolding sumTo joinTo listTo count time least extend visits hops routes leastTime quickest ways through portion share score
 ties-scores = refl
+
+-- Four stops with passing times. From 0 to 3 the links over 1 take 4 and those over 2 take 6, but passing 1 takes 7 and passing 2 takes 1.
+abbrev pub fork : Costs
+fork u v = getD
+    (0 ∷ 2 ∷ 3 ∷ 0 ∷
+    0 ∷ 0 ∷ 0 ∷ 2 ∷
+    0 ∷ 0 ∷ 0 ∷ 3 ∷
+    4 ∷ 0 ∷ 0 ∷ 0 ∷ []) (u * 4 + v) 0
+
+abbrev pub pass : ℕ → ℕ
+pass v = getD (1 ∷ 7 ∷ 1 ∷ 2 ∷ []) v 0
+
+-- What the links of a route take, and the stops strictly between its ends: from 0 to 3 over 1 and over 2, from 1 to 2 over 3 and 0, and from
+-- 0 to 1 by one link.
+fork-passed :
+    let both : List ℕ → List ℕ = λ r. time fork r ∷ passed pass r ∷ [] in
+    (both (3 ∷ 1 ∷ 0 ∷ []) ≡ 4 ∷ 7 ∷ []) × (both (3 ∷ 2 ∷ 0 ∷ []) ≡ 6 ∷ 1 ∷ []) × (both (2 ∷ 0 ∷ 3 ∷ 1 ∷ []) ≡ 9 ∷ 3 ∷ []) × (both (1 ∷ 0 ∷ []) ≡ 2 ∷ 0 ∷ []) ×
+    (time (costsFrom fork pass 1) (2 ∷ 0 ∷ 3 ∷ 1 ∷ []) ≡ 9 + 3)
+unfolding time passed
+fork-passed = (refl, refl, refl, refl, refl)
+
+fork-times : table 4 (λ s. leastTime (costsFrom fork pass s) 4 s) ≡
+    0 ∷ 2 ∷ 3 ∷ 7 ∷
+    8 ∷ 0 ∷ 12 ∷ 2 ∷
+    9 ∷ 12 ∷ 0 ∷ 3 ∷
+    4 ∷ 7 ∷ 8 ∷ 0 ∷ []
+unfolding joinTo listTo time least extend visits hops routes leastTime
+fork-times = refl

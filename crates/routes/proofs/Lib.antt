@@ -17,7 +17,6 @@ pub mod Shared
 pub mod Bounds
 pub mod Totals
 pub mod Transfer
-pub mod Useful
 pub mod Cheaper
 pub mod Touched
 pub mod Product
@@ -31,3 +30,7 @@ pub mod Stored
 pub mod Copies
 pub mod Tests
 pub mod Scales
+pub mod Passing
+pub mod Arriving
+pub mod Joined
+pub mod WalkingFrom

@@ -1,10 +1,10 @@
 -- The quickest routes from one stop to another, listed: exactly these, each once, in rising order, as many as the ways. Assumes nothing.
-use Prim.Native.Nat.{ℕ, zero, suc, _+_, _*_, _<_, _≤_}
+use Prim.Native.Nat.{ℕ, _+_, _*_, _<_, _≤_}
 use native.Mathlib.Nat.{zero-mul, mul-zero, mul-le-mul}
 use native.Mathlib.Omega.{arith}
 use mathlib.Core.Path.{_≡_, refl, sym, _∙_, ap}
 use mathlib.Core.Logic.{_≢_}
-use mathlib.Core.Bool.{Bool, true, false, cond, not, _&&_, and-true, and-comm, and-eq-true-iff}
+use mathlib.Core.Bool.{Bool, true, false, cond, not, _&&_, and-comm, and-eq-true-iff}
 use mathlib.Core.List.{List, [], _∷_, map, reverse, reverse-reverse}
 use lib.Dec.{eqb, ltb}
 use lib.ListN.{length, length-reverse}
@@ -12,10 +12,10 @@ use borrow.Author.Tests.{eqb-true, eq-eqb, lt-ltb}
 use Rattle.routes.specs.Route.{Costs, mark, time, sumTo, count, same, chosen, ahead, among, inOrder, visits, routes, leastTime, quickest, ways, through, quickestRoutes}
 use Rattle.routes.specs.Equations.{Within}
 use Rattle.routes.proofs.Booleans.{bool-iff}
-use Rattle.routes.proofs.Sums.{cond-true, sumTo-cong, sumTo-add, sumTo-zero}
+use Rattle.routes.proofs.Sums.{sumTo-cong, sumTo-add, sumTo-zero}
 use Rattle.routes.proofs.Lists.{same-refl, same-true}
 use Rattle.routes.proofs.Counting.{here, there, each, count-cong, count-when, test-true, test-le, cond-and, cond-same}
-use Rattle.routes.proofs.Listing.{isRoute, Route, start, is-route, route-of, route-below, route-visits, routes-once, found}
+use Rattle.routes.proofs.Listing.{isRoute, Route, start, is-route, route-of, route-visits, routes-once, found}
 use Rattle.routes.proofs.Times.{times, source-only, least-source, ways-reached}
 use Rattle.routes.proofs.Product.{product}
 use Rattle.routes.proofs.Order.{beforeAll, rising, count-order, order-rises, rising-known}
@@ -152,8 +152,23 @@ module _ (W : Costs) (n s t : ℕ) (l : t < n) where
       ∙ stops-reverse (chosen (λ r. eqb (time W r) (leastTime W n s t)) (routes W n s t))
       ∙ stops-chosen n (λ r. eqb (time W r) (leastTime W n s t)) (routes W n s t) (λ r m. let (q, e, R) = found W n s t l r m in rw e (route-visits W n s R))
 
+-- a product of numbers that are 0 at the mark needs no test of the mark
+pub without-marks : (a b x y : ℕ) (e : Bool) → (a ≡ mark → x ≡ 0) → (b ≡ mark → y ≡ 0) →
+    cond (not (eqb a mark) && (not (eqb b mark) && e)) (x * y) 0 ≡ cond e (x * y) 0
+without-marks a b x y e f g = go (eqb a mark) refl (eqb b mark) refl
+  where
+    go : (i : Bool) → eqb a mark ≡ i → (j : Bool) → eqb b mark ≡ j → cond (not i && (not j && e)) (x * y) 0 ≡ cond e (x * y) 0
+    go false h false k = refl
+    go true h j k = rw (f (eqb-true a mark h), zero-mul) (sym (cond-same e 0))
+    go false h true k = rw (g (eqb-true b mark k), mul-zero) (sym (cond-same e 0))
+
+-- and it is positive where it is there, if both numbers are
+pub where-positive : (e : Bool) (x y : ℕ) → (e ≡ true → (0 < x) × (0 < y)) → e ≡ ltb 0 (cond e (x * y) 0)
+where-positive false x y h = refl
+where-positive true x y h = let (a, b) = h refl in sym (lt-ltb 0 (x * y) (mul-le-mul a b))
+
 -- without a route there are no ways
-no-ways : (W : Costs) (n s c : ℕ) → s < n → Within W n c → n * c < mark → (t : ℕ) → t < n → leastTime W n s t ≡ mark → ways W n s t ≡ 0
+pub no-ways : (W : Costs) (n s c : ℕ) → s < n → Within W n c → n * c < mark → (t : ℕ) → t < n → leastTime W n s t ≡ mark → ways W n s t ≡ 0
 no-ways W n s c inside within small t l e =
     let none : ¬ (0 < ways W n s t) = λ h. ways-reached W n s c inside within small t l .0 h e in
     omega arith
@@ -178,18 +193,9 @@ module _ (W : Costs) (n s c : ℕ) (inside : s < n) (within : Within W n c) (sma
   -- the quickest routes through v, by the times alone where they add up: without a route there are no ways, so that the mark needs no test
   through-adds : (v t : ℕ) → v < n → t < n →
       through W n s v t ≡ cond (eqb (leastTime W n s v + leastTime W n v t) (leastTime W n s t)) (ways W n s v * ways W n v t) 0
-  through-adds v t k l = product W n s v c inside k within small t l ∙ go (eqb (leastTime W n s v) mark) refl (eqb (leastTime W n v t) mark) refl
-    where
-      go : (a : Bool) → eqb (leastTime W n s v) mark ≡ a → (b : Bool) → eqb (leastTime W n v t) mark ≡ b →
-          cond (not a && (not b && eqb (leastTime W n s v + leastTime W n v t) (leastTime W n s t))) (ways W n s v * ways W n v t) 0
-          ≡ cond (eqb (leastTime W n s v + leastTime W n v t) (leastTime W n s t)) (ways W n s v * ways W n v t) 0
-      go false e false f = refl
-      go true e b f =
-          let none : ways W n s v ≡ 0 = no-ways W n s c inside within small v k (eqb-true _ _ e) in
-          rw (none, zero-mul) (sym (cond-same (eqb (leastTime W n s v + leastTime W n v t) (leastTime W n s t)) 0))
-      go false e true f =
-          let none : ways W n v t ≡ 0 = no-ways W n v c k within small t l (eqb-true _ _ f) in
-          rw (none, mul-zero) (sym (cond-same (eqb (leastTime W n s v + leastTime W n v t) (leastTime W n s t)) 0))
+  through-adds v t k l =
+      product W n s v c inside k within small t l
+      ∙ without-marks (leastTime W n s v) (leastTime W n v t) (ways W n s v) (ways W n v t) _ (no-ways W n s c inside within small v k) (no-ways W n v c k within small t l)
 
   -- so the stops of all routes are a sum over all stops
   pub listed-sum : (t : ℕ) → t < n →
@@ -199,13 +205,10 @@ module _ (W : Costs) (n s c : ℕ) (inside : s < n) (within : Within W n c) (sma
   -- and where there is a route, the times add up at v exactly if some quickest route passes v
   pub passes-exactly : (v t : ℕ) → v < n → t < n → leastTime W n s t ≢ mark →
       eqb (leastTime W n s v + leastTime W n v t) (leastTime W n s t) ≡ ltb 0 (through W n s v t)
-  passes-exactly v t k l h = rw (through-adds v t k l) (go (eqb (leastTime W n s v + leastTime W n v t) (leastTime W n s t)) refl)
+  passes-exactly v t k l h = rw (through-adds v t k l) (where-positive _ (ways W n s v) (ways W n v t) both-reached)
     where
-      go : (b : Bool) → eqb (leastTime W n s v + leastTime W n v t) (leastTime W n s t) ≡ b → b ≡ ltb 0 (cond b (ways W n s v * ways W n v t) 0)
-      go false e = refl
-      go true e =
+      both-reached : eqb (leastTime W n s v + leastTime W n v t) (leastTime W n s t) ≡ true → (0 < ways W n s v) × (0 < ways W n v t)
+      both-reached e =
           let sum : leastTime W n s v + leastTime W n v t ≡ leastTime W n s t = eqb-true _ _ e in
           let low : leastTime W n s t ≤ mark = times W n s c inside within small .bounded t l in
-          let to : 0 < ways W n s v = ways-reached W n s c inside within small v k .1 (λ z. h (omega arith)) in
-          let on : 0 < ways W n v t = ways-reached W n v c k within small t l .1 (λ z. h (omega arith)) in
-          sym (lt-ltb 0 (ways W n s v * ways W n v t) (mul-le-mul to on))
+          (ways-reached W n s c inside within small v k .1 (λ z. h (omega arith)), ways-reached W n v c k within small t l .1 (λ z. h (omega arith)))

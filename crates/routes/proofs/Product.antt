@@ -1,10 +1,10 @@
 -- The ways through a stop are a product: those to it times those on from it, where the times add up, and none elsewhere.
 -- Assumes nothing.
-use Prim.Native.Nat.{ℕ, suc, _+_, _*_, _-_, _<_, _≤_}
+use Prim.Native.Nat.{ℕ, _+_, _*_, _<_, _≤_}
 use mathlib.Core.Path.{_≡_, refl, sym, _∙_, ap}
 use mathlib.Core.Logic.{_≢_}
 use mathlib.Core.Bool.{Bool, true, false, cond, not, _&&_, and-eq-true-iff}
-use native.Mathlib.Nat.{mul-one, suc-mul}
+use native.Mathlib.Nat.{mul-one}
 use native.Mathlib.Decide.{ℕ-discrete}
 use native.Mathlib.Omega.{arith}
 use lib.Dec.{eqb}
@@ -14,7 +14,7 @@ use Rattle.routes.specs.Equations.{Within, tight, inflow}
 use Rattle.routes.proofs.Booleans.{bool-iff}
 use Rattle.routes.proofs.Sums.{is-false, sumTo-cong, sumTo-zero, cond-true, cond-false, flow-mul}
 use Rattle.routes.proofs.Tight.{Tight, tight-true, true-tight, inflow-unique}
-use Rattle.routes.proofs.Times.{least-bound, ways-reached}
+use Rattle.routes.proofs.Times.{next-reached, ways-reached}
 use Rattle.routes.proofs.Flows.{Flows, flows}
 use Rattle.routes.proofs.Triangle.{triangle}
 
@@ -69,18 +69,6 @@ module _
   abbrev G : Flows W n v
   G = flows W n v c stop within small
 
-  -- a stop with a link from a stop that is reached is reached
-  next-reached : (a t : ℕ) → a < n → t < n → e a ≢ mark → e a + W a t < mark
-  next-reached a t k l h =
-      let z : suc (n - 1) ≡ n = omega arith in
-      omega (
-        arith,
-        least-bound W n v c stop within small a k h,
-        within a t k l,
-        suc-mul (n - 1) c,
-        ap (λ x. x * c) z,
-      )
-
   -- after v, where the times add up, the tight links of the routes from s are those of the routes from v
   onward : (a t : ℕ) → a < n → t < n → (tight W d a t && between W n s v a) ≡ (between W n s v t && tight W e a t)
   onward a t k l =
@@ -94,7 +82,7 @@ module _
           let p : e t ≤ e a + W a t = G .times .relaxed a t k l (T .linked) (B .on) in
           let q : d t ≤ d v + e t = triangle W n s v d e (F .times) (G .times) t l in
           and-eq-true-iff (between W n s v t) _ .1 (
-            true-between W n s v t (record { to = B .to; on = omega (arith, next-reached a t k l (B .on)); exact = omega arith }),
+            true-between W n s v t (record { to = B .to; on = omega (arith, next-reached W n v c stop within small a t k l (B .on)); exact = omega arith }),
             true-tight W e a t (T .linked) (B .on) (omega arith),
           )
 

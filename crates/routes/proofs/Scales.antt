@@ -37,6 +37,8 @@ module _ (W : Costs) (n L k : ℕ) where
       go true = sym (mul-zero k)
       go false = sumTo-cong n (λ t l. portion-scaled s v t (whole t l)) ∙ sumTo-mul-left n k (portion W n s L v)
 
-  pub score-scaled : (v : ℕ) → ((s t : ℕ) → s < n → t < n → Whole s t) → score W n (k * L) v ≡ k * score W n L v
-  unfolding score
-  score-scaled v whole = sumTo-cong n (λ s l. share-scaled s v (λ t m. whole s t l m)) ∙ sumTo-mul-left n k (λ s. share W n s L v)
+-- C s being the costs on routes from s
+pub score-scaled : (C : ℕ → Costs) (n L k v : ℕ) → ((s t : ℕ) → s < n → t < n → Whole (C s) n L k s t) → score C n (k * L) v ≡ k * score C n L v
+unfolding score
+score-scaled C n L k v whole =
+    sumTo-cong n (λ s l. share-scaled (C s) n L k s v (λ t m. whole s t l m)) ∙ sumTo-mul-left n k (λ s. share (C s) n s L v)

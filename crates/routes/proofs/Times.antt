@@ -1,6 +1,6 @@
 -- The least times satisfy E1, and where there is a route. Assumes nothing.
-use Prim.Native.Nat.{ℕ, _+_, _*_, _-_, _<_, _≤_, min}
-use native.Mathlib.Nat.{lt-irrefl, mul-le-mul-right}
+use Prim.Native.Nat.{ℕ, suc, _+_, _*_, _-_, _<_, _≤_, min}
+use native.Mathlib.Nat.{lt-irrefl, suc-mul, mul-le-mul-right}
 use native.Mathlib.Omega.{arith}
 use mathlib.Core.Path.{_≡_, refl, sym, _∙_, ap}
 use mathlib.Core.Logic.{_≢_, _↔_}
@@ -11,6 +11,7 @@ use borrow.Author.Tests.{eqb-true, eq-eqb, leb-true, leb-false}
 use Rattle.routes.specs.Route.{Costs, mark, link, time, least, count, same, visits, routes, leastTime, quickest, ways}
 use Rattle.routes.specs.Equations.{Within, tight, Times}
 use Rattle.routes.proofs.Booleans.{both}
+use Rattle.routes.proofs.Sums.{is-false}
 use Rattle.routes.proofs.Tight.{true-tight}
 use Rattle.routes.proofs.Lists.{same-refl}
 use Rattle.routes.proofs.Counting.{here, there, each, count-cong, count-when, count-positive, positive-count}
@@ -68,6 +69,10 @@ module _ (W : Costs) (n s : ℕ) where
   source-only (start l) = refl
   source-only (step l k v R) = absurd (both (visits-source R) v)
 
+  -- and one with a link ends at another stop
+  pub source-apart : {t u : ℕ} {r : List ℕ} → Route W n s (t ∷ (u ∷ r)) → eqb t s ≡ false
+  source-apart (step {t} {u} {r} l k v R) = is-false (eqb t s) (λ e. both (visits-source R) (sym (ap (λ x. visits x (u ∷ r)) (eqb-true t s e)) ∙ v))
+
   -- the least time is at most the time of each route, and other than the mark it is a route's
   pub least-of : {t : ℕ} {q : List ℕ} → Route W n s (t ∷ q) → leastTime W n s t ≤ time W (t ∷ q)
   unfolding leastTime
@@ -109,6 +114,19 @@ module _ (W : Costs) (n s c : ℕ) (inside : s < n) (within : Within W n c) (sma
           → leastTime W n s t ≤ leastTime W n s u + W u t
       go R e true v = let (p, P, z) = cut W n s t R v in omega (arith, least-of W n s P)
       go R e false v = omega (arith, least-of W n s (step m k v R))
+
+  -- a link from a stop that is reached leads on below the mark, so where a route leads on the stop is reached too
+  pub next-reached : (a t : ℕ) → a < n → t < n → leastTime W n s a ≢ mark → leastTime W n s a + W a t < mark
+  next-reached a t k l h =
+      let z : suc (n - 1) ≡ n = omega arith in
+      omega (arith, least-bound a k h, within a t k l, suc-mul (n - 1) c, ap (λ x. x * c) z)
+
+  pub reached-on : {u t : ℕ} {q : List ℕ} → Route W n u (t ∷ q) → leastTime W n s u ≢ mark → leastTime W n s t ≢ mark
+  reached-on (start l) h = h
+  reached-on {u} (step {t} {u = a} l k v R) h =
+      let near : leastTime W n s a ≢ mark = reached-on R h in
+      let j : a < n = route-below W n u R in
+      λ e. omega (arith, triangle a t j l k near, next-reached a t j l near)
 
   -- the last link of a quickest route is tight
   pub last-tight : {t u : ℕ} {r : List ℕ} → Route W n s (t ∷ (u ∷ r)) → time W (t ∷ (u ∷ r)) ≡ leastTime W n s t

@@ -1,5 +1,6 @@
 -- The routes of a hall, by listing every one of them, and what document 01 counts over them.
--- A stop (vertex) is a number below n. W u v is the cost (weight) of the link (directed edge) u to v, 0 where there is none.
+-- A stop (vertex) is a number below n. W u v is the cost (weight) of the link (directed edge) u to v, 0 where there is none; p v is the
+-- passing time of the stop v (vertex weight).
 -- A route (simple path) is the list of its stops, the last one first. Assumes nothing.
 use Prim.Native.Nat.{ℕ, zero, suc, _+_, _*_, _/_, _%_, _^_, min}
 use mathlib.Core.Bool.{Bool, true, false, cond, _&&_, _||_}
@@ -90,11 +91,27 @@ uses u v [] = false
 uses u v (t ∷ []) = false
 uses u v (t ∷ (x ∷ r)) = (eqb x u && eqb t v) || uses u v (x ∷ r)
 
--- the sum of the costs of a route's links (its length)
+-- the sum of the costs of a route's links
 unfoldable pub time : Costs → List ℕ → ℕ
 time W [] = 0
 time W (t ∷ []) = 0
 time W (t ∷ (u ∷ r)) = time W (u ∷ r) + W u t
+
+-- the passing times of the stops strictly between a route's ends, in all
+unfoldable pub passed : (ℕ → ℕ) → List ℕ → ℕ
+passed p [] = 0
+passed p (t ∷ []) = 0
+passed p (t ∷ (u ∷ [])) = 0
+passed p (t ∷ (u ∷ (x ∷ r))) = p u + passed p (u ∷ (x ∷ r))
+
+-- a route's time: the sum of the costs of its links and of the passing times of the stops strictly between its ends
+abbrev pub routeTime : Costs → (ℕ → ℕ) → List ℕ → ℕ
+routeTime W p r = time W r + passed p r
+
+-- what the links cost on routes from s: one that leaves another stop than s also takes what it takes to pass that stop. So the costs of a
+-- route's links from s add up to its time (`time-from`, proved), and all below is over these costs, as the costs W
+abbrev pub costsFrom : Costs → (ℕ → ℕ) → ℕ → Costs
+costsFrom W p s u v = cond (link W u v) (W u v + cond (eqb u s) 0 (p u)) 0
 
 -- the least time of a list of routes, the mark where it is empty
 unfoldable pub least : Costs → List (List ℕ) → ℕ
@@ -106,6 +123,7 @@ unfoldable pub extend : ℕ → List (List ℕ) → List (List ℕ)
 extend t [] = []
 extend t (r ∷ rs) = cond (visits t r) (extend t rs) ((t ∷ r) ∷ extend t rs)
 
+-- the costs W are those on routes from s
 module _ (W : Costs) (n s : ℕ) where
   -- the routes of k links from s to t: by the last link, which comes from any stop u
   unfoldable pub hops : ℕ → ℕ → List (List ℕ)
@@ -148,6 +166,6 @@ module _ (W : Costs) (n s : ℕ) where
   unfoldable pub used : ℕ → ℕ → Bool
   used u v = ltb 0 (sumTo n (quickest (uses u v)))
 
--- the score of v: the sum of its shares over all sources (betweenness × scale, ordered pairs)
-unfoldable pub score : Costs → ℕ → ℕ → ℕ → ℕ
-score W n scale v = sumTo n (λ s. share W n s scale v)
+-- the score of v: the sum of its shares over all sources, C s being the costs on routes from s (betweenness × scale, ordered pairs)
+unfoldable pub score : (ℕ → Costs) → ℕ → ℕ → ℕ → ℕ
+score C n scale v = sumTo n (λ s. share (C s) n s scale v)

@@ -1,5 +1,5 @@
--- A walk over the quickest routes from one stop to another, by times alone: near x is the time from the first stop to x, far x the time
--- from x to the last stop t. Assumes nothing.
+-- A walk over the quickest routes from one stop to another, by times alone: near x is the time from the first stop to x, far x what is
+-- still to come from x on to the last stop t. Assumes nothing.
 use Prim.Native.Nat.{ℕ, zero, suc, _+_, _-_}
 use mathlib.Core.Bool.{Bool, cond, _&&_}
 use mathlib.Core.List.{List, [], _∷_, _++_}

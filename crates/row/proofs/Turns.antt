@@ -12,22 +12,22 @@ use lib.Dec.{eqb, ltb, leb, lit<}
 use lib.ListN.{length, getD, set, length-set}
 use lib.Pow.{pow-lt}
 use lib.Seq.{getD-set-same, getD-set-other}
-use borrow.Author.Tests.{eqb-true, lt-ltb}
+use borrow.Author.Tests.{eqb-true}
 use Rattle.routes.specs.Route.{Costs, mark, link, sumTo, has, leastTime}
 use Rattle.routes.specs.Equations.{Within, Times, Counts, cappedWays}
 use Rattle.routes.proofs.Booleans.{both}
 use Rattle.routes.proofs.Times.{times, least-bound}
 use Rattle.routes.proofs.Ways.{counts}
 use Rattle.routes.proofs.Bits.{split, has-and, has-or, has-not, has-pow, has-none}
-use Rattle.links.specs.Promise.{Task, dearest, masked, viaOf}
-use Rattle.links.proofs.Masked.{masked-small, masked-within}
+use Rattle.links.specs.Promise.{Task, dearest, maskedFrom, viaOf}
+use Rattle.links.proofs.Masked.{from-link, from-set, masked-small, masked-within, stay-le}
 use Rattle.row.proofs.Order.{order-more, order-none, order-room, seen-cong, seen-more, seen-none}
 use Rattle.row.proofs.Settling.{Settling, b-reached, b-right, b-waits, counts-capped, ends-counted, ends-settled, ends-timed, settled-first, settles-next, settling-starts}
 use Rattle.row.specs.Settled.{Begun, Ground, Order, Settled, seen}
 use Rattle.row.specs.Steps.{Nearest, Offered, Offers, Tally, joinedBy, sumOver}
 
-pub ground : {n s scale limit top : ℕ} {cost out : List ℕ} → Task n s cost out scale limit top → Ground n s limit cost out
-ground t = record { source = t .source; most = t .most; square = t .square; masks = t .masks; cheap = t .cheap; linked = t .linked; few = t .few }
+pub ground : {n s scale limit top : ℕ} {cost passing out : List ℕ} → Task n s cost passing out scale limit top → Ground n s limit cost passing out
+ground t = record { source = t .source; most = t .most; square = t .square; passable = t .passable; masks = t .masks; cheap = t .cheap; brief = t .brief; linked = t .linked; few = t .few }
 
 -- a stop leaves a set before others join it, of which it is none, or behind them
 but-one : (f e k d : Bool) → (e ≡ true → d ≡ true) → ((f && not e) || (k && not d)) ≡ ((f || (k && not d)) && not e)
@@ -35,7 +35,7 @@ but-one f true k d h = rw (h refl, and-false f, and-false k, and-false)
 but-one f false k d h = rw (and-true f, and-true)
 
 -- the lists and words between two turns
-pub record Turn (n s limit : ℕ) (cost out time ways pred order : List ℕ) (done frontier k : ℕ) : Type 0 where
+pub record Turn (n s limit : ℕ) (cost passing out time ways pred order : List ℕ) (done frontier k : ℕ) : Type 0 where
   pub timed : length time ≡ n
   pub counted : length ways ≡ n
   pub room : length pred ≡ 64
@@ -44,9 +44,9 @@ pub record Turn (n s limit : ℕ) (cost out time ways pred order : List ℕ) (do
   pub front : frontier < 2 ^ 64
   pub below : (t : ℕ) → has frontier t ≡ true → t < n
   pub behind : (t u : ℕ) → t < n → has (getD pred t 0) u ≡ true → u < n
-  pub state : Settling (masked n cost out) n s (leastTime (masked n cost out) n s) (cappedWays (masked n cost out) n s limit)
+  pub state : Settling (maskedFrom n s cost passing out) n s (leastTime (maskedFrom n s cost passing out) n s) (cappedWays (maskedFrom n s cost passing out) n s limit)
       (has done) (has frontier) (λ t u. has (getD pred t 0) u) (λ t. getD time t 0) (λ t. getD ways t 0)
-  pub ordered : Order n k (leastTime (masked n cost out) n s) (λ i. getD order i 0)
+  pub ordered : Order n k (leastTime (maskedFrom n s cost passing out) n s) (λ i. getD order i 0)
   pub settled : (t : ℕ) → has done t ≡ seen (λ i. getD order i 0) k t
 
 -- the members of the word that `predecessors` makes
@@ -73,9 +73,9 @@ old-parent f l false m e h z = absurd (both h (rw z (none f l m)))
     none true false false = refl
     none false l m = refl
 
-module _ (n s limit : ℕ) (cost out : List ℕ) (g : Ground n s limit cost out) where
+module _ (n s limit : ℕ) (cost passing out : List ℕ) (g : Ground n s limit cost passing out) where
   abbrev W : Costs
-  W = masked n cost out
+  W = maskedFrom n s cost passing out
 
   abbrev D : ℕ → ℕ
   D = leastTime W n s
@@ -83,12 +83,8 @@ module _ (n s limit : ℕ) (cost out : List ℕ) (g : Ground n s limit cost out)
   abbrev σ : ℕ → ℕ
   σ = cappedWays W n s limit
 
-  -- a mask holds the links
-  pub masked-link : (u t : ℕ) → u < n → link W u t ≡ has (getD out u 0) t
-  masked-link u t l = split (has (getD out u 0) t) (λ h. rw h (lt-ltb 0 _ (g .linked u t l h .1))) (λ h. rw h)
-
   costs-within : Within W n dearest
-  costs-within = masked-within n cost out (g .cheap)
+  costs-within = masked-within n s cost passing out (g .cheap) (g .brief)
 
   small : n * dearest < mark
   small = masked-small n (g .most)
@@ -106,7 +102,7 @@ module _ (n s limit : ℕ) (cost out : List ℕ) (g : Ground n s limit cost out)
   one-word t l = pow-lt {i = t} {j = 64} (omega (arith, g .most))
 
   -- before the first turn
-  pub turn-starts : {time ways pred order : List ℕ} → Begun n s time ways pred order → Turn n s limit cost out time ways pred order 0 (2 ^ s) 0
+  pub turn-starts : {time ways pred order : List ℕ} → Begun n s time ways pred order → Turn n s limit cost passing out time ways pred order 0 (2 ^ s) 0
   turn-starts {time} {ways} {pred} {order} c =
       record {
         timed = c .timed;
@@ -127,7 +123,7 @@ module _ (n s limit : ℕ) (cost out : List ℕ) (g : Ground n s limit cost out)
       none t u = rw (c .preds t) (has-none u)
 
   -- a turn settles the nearest stop b of the frontier
-  module _ (time ways pred order : List ℕ) (done frontier k b : ℕ) (turn : Turn n s limit cost out time ways pred order done frontier k) (q : Nearest time frontier b) where
+  module _ (time ways pred order : List ℕ) (done frontier k b : ℕ) (turn : Turn n s limit cost passing out time ways pred order done frontier k) (q : Nearest time frontier b) where
     pub turn-inside : b < n
     turn-inside = turn .below b (q .member)
 
@@ -176,46 +172,50 @@ module _ (n s limit : ℕ) (cost out : List ℕ) (g : Ground n s limit cost out)
       word′ = rw (marks, one) (or-lt 64 done (2 ^ b) (turn .word) (one-word b turn-inside))
 
       fresh-at : (t : ℕ) → t < n → has fresh t ≡ (link W b t && not (has done′ t))
-      fresh-at t l = rw (takes, has-and, has-not 64 done′ t word′ (omega (arith, g .most)), masked-link b t turn-inside)
+      fresh-at t l = rw (takes, has-and, has-not 64 done′ t word′ (omega (arith, g .most)), from-link n s cost passing out b t (λ h. g .linked b t turn-inside h .1))
 
       fresh-link : (t : ℕ) → has fresh t ≡ true → has (getD out b 0) t ≡ true
       fresh-link t h = and-eq-true-iff (has (getD out b 0) t) _ .0 (sym (has-and (getD out b 0) ((2 ^ 64 - 1) - done′) t) ∙ rw takes at h) .0
 
-      via-at : (t : ℕ) → has fresh t ≡ true → viaOf n b cost time t ≡ D b + W b t
-      via-at t h = rw (turn-right, fresh-link t h)
+      via-at : (t : ℕ) → has fresh t ≡ true → viaOf n s b cost passing time t ≡ getD time b 0 + W b t
+      via-at t h =
+          let k = fresh-link t h in
+          omega (arith, from-set n s cost passing out b t k (g .linked b t turn-inside k .1))
 
       fresh-word : fresh < 2 ^ 64
       fresh-word = rw takes (lt-of-le-of-lt (and-le-r (getD out b 0) _) (omega arith))
 
-      pub turn-offers : Offers n b fresh cost time pred
+      pub turn-offers : Offers n s b fresh cost passing time pred
       turn-offers =
           record {
             most = g .most;
             inside = turn-inside;
             square = g .square;
+            passable = g .passable;
             timed = turn .timed;
             room = turn .room;
             below = λ t h. g .linked b t turn-inside (fresh-link t h) .0;
+            leaves = omega (arith, turn-right, least-bound W n s dearest (g .source) costs-within small b turn-inside turn-reached, g .most, stay-le s passing b, g .brief b turn-inside);
             fits = λ t h.
                 let l = g .linked b t turn-inside (fresh-link t h) .0 in
-                omega (arith, via-at t h, near b t turn-inside l turn-reached);
+                omega (arith, via-at t h, turn-right, near b t turn-inside l turn-reached);
           }
 
       -- the turn keeps what holds
       module _ (time′ pred′ : List ℕ) (count frontier′ : ℕ) (counts : count ≡ min (suc limit) (getD ways b 0 + sumOver ways (getD pred b 0)))
-          (offered : Offered n b fresh cost time pred time′ pred′) (timed′ : length time′ ≡ length time) (room′ : length pred′ ≡ length pred)
+          (offered : Offered n s b fresh cost passing time pred time′ pred′) (timed′ : length time′ ≡ length time) (room′ : length pred′ ≡ length pred)
           (moves : frontier′ ≡ bitOr (bitAnd frontier ((2 ^ 64 - 1) - bit)) fresh) where
         lowers : (t : ℕ) → t < n → getD time′ t 0 ≡ cond (link W b t && not (has done′ t)) (min (getD time b 0 + W b t) (getD time t 0)) (getD time t 0)
         lowers t l =
             offered .times t
-            ∙ split (has fresh t) (λ h. rw (h, sym (fresh-at t l) ∙ h, fresh-link t h)) (λ h. rw (h, sym (fresh-at t l) ∙ h))
+            ∙ split (has fresh t) (λ h. rw (h, sym (fresh-at t l) ∙ h, via-at t h)) (λ h. rw (h, sym (fresh-at t l) ∙ h))
 
         joins : (t u : ℕ) → t < n → has (getD pred′ t 0) u ≡ cond (link W b t && not (has done′ t))
             (cond (ltb (getD time b 0 + W b t) (getD time t 0)) false (has (getD pred t 0) u) || (leb (getD time b 0 + W b t) (getD time t 0) && eqb u b)) (has (getD pred t 0) u)
         joins t u l =
             ap (λ x. has x u) (offered .preds t)
             ∙ split (has fresh t)
-            (λ h. rw (h, sym (fresh-at t l) ∙ h, fresh-link t h) (has-joined (viaOf n b cost time t) (getD time t 0) b (getD pred t 0) u))
+            (λ h. rw (h, sym (fresh-at t l) ∙ h, via-at t h) (has-joined (getD time b 0 + W b t) (getD time t 0) b (getD pred t 0) u))
             (λ h. rw (h, sym (fresh-at t l) ∙ h))
 
         front-at : (t : ℕ) → t < n → has frontier′ t ≡ ((has frontier t || (link W b t && not (has done′ t))) && not (eqb t b))
@@ -250,8 +250,8 @@ module _ (n s limit : ℕ) (cost out : List ℕ) (g : Ground n s limit cost out)
             settles t ∙ rw (turn .settled t)
             (sym (seen-more (λ i. getD (set order k b) i 0) k t ∙ rw (here, seen-cong k t before)))
 
-        pub turn-goes : Turn n s limit cost out time′ (set ways b count) pred′ (set order k b) done′ frontier′ (k + 1)
-        turn-goes = subst⁻¹ (λ j. Turn n s limit cost out time′ (set ways b count) pred′ (set order k b) done′ frontier′ j) (add-one k)
+        pub turn-goes : Turn n s limit cost passing out time′ (set ways b count) pred′ (set order k b) done′ frontier′ (k + 1)
+        turn-goes = subst⁻¹ (λ j. Turn n s limit cost passing out time′ (set ways b count) pred′ (set order k b) done′ frontier′ j) (add-one k)
             record {
               timed = timed′ ∙ turn .timed;
               counted = length-set ways b count ∙ turn .counted;
@@ -269,7 +269,7 @@ module _ (n s limit : ℕ) (cost out : List ℕ) (g : Ground n s limit cost out)
             }
 
   -- after the last turn
-  pub turn-ends : {time ways pred order : List ℕ} {done k : ℕ} → Turn n s limit cost out time ways pred order done 0 k → Settled W n s limit time ways pred order k
+  pub turn-ends : {time ways pred order : List ℕ} {done k : ℕ} → Turn n s limit cost passing out time ways pred order done 0 k → Settled W n s limit time ways pred order k
   turn-ends {time} {ways} {pred} {order} {done} {k} c =
       record {
         times = ends-timed W n s limit D σ E1 E2 near _ _ _ _ _ (c .state) empty;

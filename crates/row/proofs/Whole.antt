@@ -17,7 +17,7 @@ use Rattle.routes.proofs.Shared.{flowBack, flowing, shares}
 use Rattle.routes.proofs.Bounds.{back-le, capped-back-le}
 use Rattle.routes.proofs.Bits.{split}
 use Rattle.routes.proofs.Rows.{listTo-of}
-use Rattle.links.specs.Promise.{Task, dearest, masked}
+use Rattle.links.specs.Promise.{Task, dearest, maskedFrom}
 use Rattle.links.proofs.Masked.{masked-small, masked-within}
 use Rattle.row.proofs.Over.{capped-within}
 use Rattle.row.proofs.Turns.{ground, near}
@@ -45,10 +45,10 @@ begun n s top time₀ ways₀ time ways ls marked lt lw wt ww =
           (λ e. List·getD-eq-default (replicate 64 0) 0 {n = t} (omega (arith, ltb-false t 64 e, length-replicate {A = ℕ} 64 0)));
     }
 
-module _ (n s scale limit top k : ℕ) (cost out time ways pred order : List ℕ) (task : Task n s cost out scale limit top)
-    (settled : Settled (masked n cost out) n s limit time ways pred order k) where
+module _ (n s scale limit top k : ℕ) (cost passing out time ways pred order : List ℕ) (task : Task n s cost passing out scale limit top)
+    (settled : Settled (maskedFrom n s cost passing out) n s limit time ways pred order k) where
   abbrev W : Costs
-  W = masked n cost out
+  W = maskedFrom n s cost passing out
 
   abbrev D : ℕ → ℕ
   D = leastTime W n s
@@ -59,11 +59,11 @@ module _ (n s scale limit top k : ℕ) (cost out time ways pred order : List ℕ
   abbrev ψ : ℕ → ℕ
   ψ = flowBack W n s limit scale
 
-  g : Ground n s limit cost out
+  g : Ground n s limit cost passing out
   g = ground task
 
   F : Flows W n s
-  F = flows W n s dearest (task .source) (masked-within n cost out (task .cheap)) (masked-small n (task .most))
+  F = flows W n s dearest (task .source) (masked-within n s cost passing out (task .cheap) (task .brief)) (masked-small n (task .most))
 
   -- what the loop over shares asks of a settled row
   pub owing : length ways ≡ n → length pred ≡ 64 → length order ≡ 64 → Owing W n s k scale limit ways pred order
@@ -80,7 +80,7 @@ module _ (n s scale limit top k : ℕ) (cost out time ways pred order : List ℕ
         ordered = settled .ordered;
         complete = settled .complete;
         found = settled .found;
-        near = near n s limit cost out g;
+        near = near n s limit cost passing out g;
         some = λ t l r. omega (arith, F .reached t l r);
         flowing = flowing W n s F limit scale;
         back = back-le W n s F limit scale;

@@ -8,7 +8,6 @@ use lib.Dec.{eqb}
 use lib.ListN.{length, getD}
 use Rattle.routes.specs.Route.{Costs, mark, has, leastTime}
 use Rattle.routes.specs.Equations.{tight, cappedWays}
-use Rattle.links.specs.Promise.{dearest}
 
 -- t is one of the first k stops
 unfoldable pub seen : (ℕ → ℕ) → ℕ → ℕ → Bool
@@ -26,12 +25,14 @@ abbrev pub seed : ℕ → ℕ → ℕ
 seed s t = cond (eqb t s) 1 0
 
 -- what the settle loop asks of the hall
-pub record Ground (n s limit : ℕ) (cost out : List ℕ) : Type 0 where
+pub record Ground (n s limit : ℕ) (cost passing out : List ℕ) : Type 0 where
   pub source : s < n
   pub most : n ≤ 64
   pub square : length cost ≡ n * n
+  pub passable : length passing ≡ n
   pub masks : length out ≡ 64
-  pub cheap : (u t : ℕ) → u < n → t < n → getD cost (u * n + t) 0 ≤ dearest
+  pub cheap : (u t : ℕ) → u < n → t < n → getD cost (u * n + t) 0 ≤ 65535
+  pub brief : (u : ℕ) → u < n → getD passing u 0 ≤ 65535
   pub linked : (u t : ℕ) → u < n → has (getD out u 0) t ≡ true → (t < n) × (0 < getD cost (u * n + t) 0)
   pub few : limit ≤ 22
 

@@ -1,5 +1,6 @@
 // One source's row of a hall: the least time, the ways and the share of every stop.
 // Links are those of the masks: `out[u]` has bit t where the link u to t counts.
+// To pass the stop u, strictly between its ends, a route takes `passing[u]`.
 mod push;
 mod settle;
 
@@ -8,7 +9,7 @@ ghost use mathlib.Core.Bool.{not};
 ghost use lib.ListN.{length};
 ghost use Rattle.routes.specs.Route.{allTo};
 ghost use Rattle.routes.specs.Stored.{Stored};
-ghost use Rattle.links.specs.Promise.{masked, Task};
+ghost use Rattle.links.specs.Promise.{maskedFrom, Task};
 ghost use Rattle.row.specs.Promise.{Filled, within};
 
 // Writes the row of the source s. Answers whether some stop has more ways than the limit.
@@ -16,6 +17,7 @@ pub fn fill(
     n: usize,
     s: usize,
     cost: &[u32],
+    passing: &[u32],
     out: &[u64; 64],
     scale: u64,
     limit: u32,
@@ -24,11 +26,11 @@ pub fn fill(
     ways: &mut [u32],
     share: &mut [u64],
 ) -> bool
-    requires { ⌜ Task n s (now cost) (now out) scale limit mark ⌝ }
+    requires { ⌜ Task n s (now cost) (now passing) (now out) scale limit mark ⌝ }
     requires { ⌜ length (now time) ≡ n ⌝ }
     requires { ⌜ length (now ways) ≡ n ⌝ }
     requires { ⌜ length (now share) ≡ n ⌝ }
-    ensures { λ r. ⌜ Filled (masked n (now (cost .entry)) (now (out .entry))) n s limit scale (now (time .exit)) (now (ways .exit)) (now (share .exit)) r ⌝ }
+    ensures { λ r. ⌜ Filled (maskedFrom n s (now (cost .entry)) (now (passing .entry)) (now (out .entry))) n s limit scale (now (time .exit)) (now (ways .exit)) (now (share .exit)) r ⌝ }
 {
     let mut pred = [0u64; 64];
     let mut order = [0usize; 64];
@@ -37,7 +39,18 @@ pub fn fill(
     clear(share);
     time[s] = 0;
     ways[s] = 1;
-    let k = settle::settle(n, s, cost, out, limit, time, ways, &mut pred, &mut order);
+    let k = settle::settle(
+        n,
+        s,
+        cost,
+        passing,
+        out,
+        limit,
+        time,
+        ways,
+        &mut pred,
+        &mut order,
+    );
     push::accumulate(k, scale, limit, ways, &pred, &order, share);
     share[s] = 0;
     crowded(limit, ways)

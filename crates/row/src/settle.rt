@@ -7,7 +7,7 @@ ghost use mathlib.Core.Bool.{cond};
 ghost use Prim.Native.Nat.{suc, _+_, _<_, min};
 ghost use lib.Dec.{ltb};
 ghost use lib.ListN.{length};
-ghost use Rattle.links.specs.Promise.{masked, Below};
+ghost use Rattle.links.specs.Promise.{maskedFrom, Below};
 ghost use Rattle.row.specs.Settled.{Ground, Begun, Settled};
 ghost use Rattle.row.specs.Steps.{Nearest, Tally, sumOver, joinedBy, Offers, Offered};
 
@@ -16,6 +16,7 @@ pub fn settle(
     n: usize,
     s: usize,
     cost: &[u32],
+    passing: &[u32],
     out: &[u64; 64],
     limit: u32,
     time: &mut [u32],
@@ -23,9 +24,9 @@ pub fn settle(
     pred: &mut [u64],
     order: &mut [usize],
 ) -> usize
-    requires { ⌜ Ground n s limit (now cost) (now out) ⌝ }
+    requires { ⌜ Ground n s limit (now cost) (now passing) (now out) ⌝ }
     requires { ⌜ Begun n s (now time) (now ways) (now pred) (now order) ⌝ }
-    ensures { λ r. ⌜ Settled (masked n (now (cost .entry)) (now (out .entry))) n s limit (now (time .exit)) (now (ways .exit)) (now (pred .exit)) (now (order .exit)) r ⌝ }
+    ensures { λ r. ⌜ Settled (maskedFrom n s (now (cost .entry)) (now (passing .entry)) (now (out .entry))) n s limit (now (time .exit)) (now (ways .exit)) (now (pred .exit)) (now (order .exit)) r ⌝ }
 {
     let mut k: usize = 0;
     let mut done: u64 = 0;
@@ -39,7 +40,7 @@ pub fn settle(
         let count = tally(limit, ways[b], pred[b], ways);
         ways[b] = count;
         let fresh = out[b] & !done;
-        relax(n, b, fresh, cost, time, pred);
+        relax(n, s, b, fresh, cost, passing, time, pred);
         frontier = (frontier & !bit) | fresh;
     }
     k
@@ -87,14 +88,23 @@ fn tally(limit: u32, first: u32, from: u64, ways: &[u32]) -> u32
     counts::as_entry(count)
 }
 
-// Offers the links from b to the stops of a set.
-fn relax(n: usize, b: usize, fresh: u64, cost: &[u32], time: &mut [u32], pred: &mut [u64])
-    requires { ⌜ Offers n b fresh (now cost) (now time) (now pred) ⌝ }
-    ensures { λ _. ⌜ Offered n b fresh (now (cost .entry)) (now (time .entry)) (now (pred .entry)) (now (time .exit)) (now (pred .exit)) ⌝ }
+// Offers the links from b to the stops of a set, on routes from s.
+fn relax(
+    n: usize,
+    s: usize,
+    b: usize,
+    fresh: u64,
+    cost: &[u32],
+    passing: &[u32],
+    time: &mut [u32],
+    pred: &mut [u64],
+)
+    requires { ⌜ Offers n s b fresh (now cost) (now passing) (now time) (now pred) ⌝ }
+    ensures { λ _. ⌜ Offered n s b fresh (now (cost .entry)) (now (passing .entry)) (now (time .entry)) (now (pred .entry)) (now (time .exit)) (now (pred .exit)) ⌝ }
 {
     let bit = sets::only(b);
     let base = b * n;
-    let at = time[b];
+    let at = time[b] + numbers::stay(s, b, passing);
     let mut left = fresh;
     while left != 0 {
         let t = sets::lowest(left);

@@ -18,7 +18,7 @@ use Rattle.routes.proofs.Rows.{getD-listTo, listTo-of}
 use Rattle.routes.proofs.Bits.{split}
 use Rattle.routes.proofs.Totals.{ways-in-all}
 use Rattle.routes.proofs.Tight.{SameTight, same-tight, inflow-cong, outflow-cong}
-use Rattle.links.specs.Promise.{Task, dearest, sumBound, masked}
+use Rattle.links.specs.Promise.{Task, dearest, sumBound, maskedFrom}
 use Rattle.links.proofs.Masked.{masked-small, masked-within}
 use Rattle.row_check.specs.Handed.{Divides, Divided, handedBack, handedBy}
 use Rattle.row_check.proofs.Checked.{Checked, checked-right, right-checked}
@@ -76,9 +76,9 @@ of-beq false false e = refl
 pub parts-of : {n : ℕ} (time ways share : List ℕ) → (length time ≡ n) × (length ways ≡ n) × (length share ≡ n) → Parts n time ways share
 parts-of time ways share p = record { timed = p .0; counted = p .1; shared = p .2 }
 
-module _ {n s : ℕ} {cost out : List ℕ} {scale limit top : ℕ} {time ways share : List ℕ} (T : Task n s cost out scale limit top) (P : Parts n time ways share) where
+module _ {n s : ℕ} {cost passing out : List ℕ} {scale limit top : ℕ} {time ways share : List ℕ} (T : Task n s cost passing out scale limit top) (P : Parts n time ways share) where
   abbrev W : Costs
-  W = masked n cost out
+  W = maskedFrom n s cost passing out
 
   abbrev Passed : Type 0
   Passed = Checked W n s limit scale (at time) (at ways) (at share)
@@ -87,7 +87,7 @@ module _ {n s : ℕ} {cost out : List ℕ} {scale limit top : ℕ} {time ways sh
   verdict = isRow W n s limit scale time ways share
 
   within : Within W n dearest
-  within = masked-within n cost out (T .cheap)
+  within = masked-within n s cost passing out (T .cheap) (T .brief)
 
   small : n * dearest < mark
   small = masked-small n (T .most)
@@ -174,11 +174,12 @@ module _ {n s : ℕ} {cost out : List ℕ} {scale limit top : ℕ} {time ways sh
 
   -- and what the sums ask holds
   pub opened-balance : {psi : List ℕ} → Opened n s top time ways share → Divided n s limit scale ways share psi
-      → Balance n s cost out time ways psi (replicate 64 0) (replicate 64 0)
+      → Balance n s cost passing out time ways psi (replicate 64 0) (replicate 64 0)
   opened-balance {psi} O q = record {
     most = T .most;
     source = T .source;
     square = T .square;
+    passable = T .passable;
     masks = T .masks;
     linked = T .linked;
     timed = P .timed;
@@ -203,7 +204,7 @@ module _ {n s : ℕ} {cost out : List ℕ} {scale limit top : ℕ} {time ways sh
 
   -- with what flows back, the shares can be compared
   module _ {psi sum flow : List ℕ} {bad : Bool} (O : Opened n s top time ways share) (q : Divided n s limit scale ways share psi)
-      (r : Balanced n s cost out time ways psi sum flow bad) where
+      (r : Balanced n s cost passing out time ways psi sum flow bad) where
     pub balanced-pays : Pays n ways share flow
     balanced-pays = record { most = T .most; counted = P .counted; shared = P .shared; room = r .room; few = few-at (O .inAll); light = r .light }
 

@@ -16,7 +16,7 @@ use Rattle.routes.specs.Sets.{Popped}
 use Rattle.routes.proofs.Bits.{popped-gone, split, has-none, sum-popped, sum-none, Rewriting, rewriting-starts, rewriting-goes, rewriting-ends}
 use Rattle.links.proofs.Flat.{flat-lt}
 use Rattle.links.specs.Picked.{Picked}
-use Rattle.links.specs.Promise.{viaOf, sumBound}
+use Rattle.links.specs.Promise.{stay, viaOf, sumBound}
 use Rattle.row_check.specs.Tests.{at}
 use Rattle.row_check.specs.Tight.{Scan, Scans, ifTight}
 
@@ -41,15 +41,15 @@ pub row-entry : (n u t : ℕ) (l : List ℕ) → t < n → getD (take (u * n + n
 row-entry n u t l h = getD-take (u * n + n - u * n) (drop (u * n) l) t 0 (omega arith) ∙ getD-drop (u * n) l t 0
 
 -- going over the links from u: what is left is still to come, and what was passed is done
-module _ (n s u links : ℕ) (cost time ways psi old : List ℕ) (before : Bool) where
+module _ (n s u links : ℕ) (cost passing time ways psi old : List ℕ) (before : Bool) where
   pub record Walking (left : ℕ) (sum : List ℕ) (flow : ℕ) (bad : Bool) : Type 0 where
     pub sums : length sum ≡ 64
-    pub flows : flow + sumTo n (λ t. cond (has left t) (ifTight n u cost time t (at psi t)) 0) ≡ sumTo n (λ t. cond (has links t) (ifTight n u cost time t (at psi t)) 0)
-    pub added : Rewriting links left (λ t. at old t + ifTight n u cost time t (at ways u)) (at old) (at sum)
-    pub relaxed : bad ≡ false → (before ≡ false) × ((t : ℕ) → has links t ≡ true → has left t ≡ false → at time t ≤ viaOf n u cost time t)
-    pub good : before ≡ false → ((t : ℕ) → has links t ≡ true → at time t ≤ viaOf n u cost time t) → bad ≡ false
+    pub flows : flow + sumTo n (λ t. cond (has left t) (ifTight n s u cost passing time t (at psi t)) 0) ≡ sumTo n (λ t. cond (has links t) (ifTight n s u cost passing time t (at psi t)) 0)
+    pub added : Rewriting links left (λ t. at old t + ifTight n s u cost passing time t (at ways u)) (at old) (at sum)
+    pub relaxed : bad ≡ false → (before ≡ false) × ((t : ℕ) → has links t ≡ true → has left t ≡ false → at time t ≤ viaOf n s u cost passing time t)
+    pub good : before ≡ false → ((t : ℕ) → has links t ≡ true → at time t ≤ viaOf n s u cost passing time t) → bad ≡ false
 
-  module _ (asked : Scan n s u links cost time ways psi old) where
+  module _ (asked : Scan n s u links cost passing time ways psi old) where
     pub walking-starts : Walking links old 0 before
     walking-starts = record {
       sums = asked .sums;
@@ -59,8 +59,8 @@ module _ (n s u links : ℕ) (cost time ways psi old : List ℕ) (before : Bool)
       good = λ e _. e;
     }
 
-    total : sumTo n (λ t. cond (has links t) (ifTight n u cost time t (at psi t)) 0) ≤ n * 2 ^ 41
-    total = sumTo-bound n (2 ^ 41) (λ t l. under (has links t) (under (eqb (viaOf n u cost time t) (at time t)) (asked .light t l)))
+    total : sumTo n (λ t. cond (has links t) (ifTight n s u cost passing time t (at psi t)) 0) ≤ n * 2 ^ 41
+    total = sumTo-bound n (2 ^ 41) (λ t l. under (has links t) (under (eqb (viaOf n s u cost passing time t) (at time t)) (asked .light t l)))
 
     -- the member taken stands in every table, and its sum can take the ways of u
     pub walking-inside : {left t rest flow : ℕ} {sum : List ℕ} {bad : Bool} → Walking left sum flow bad → Popped left t rest
@@ -87,18 +87,18 @@ module _ (n s u links : ℕ) (cost time ways psi old : List ℕ) (before : Bool)
       pub walking-adds : {b : Bool} {more x : ℕ} → more ≡ at ways u → Picked b more 0 x → at sum t + x ≤ sumBound
       walking-adds {b} {more} m e = let (_, _, _, k) = walking-inside w p in omega (arith, e .is, under b {x = more} {m = at ways u} (omega arith))
 
-    -- a turn reads the cost c and the time far, picks the stop i to take the flow from, and adds x to the sum, which makes y
+    -- a turn reads the cost c and the time far, u being left at the time near, picks the stop i to take the flow from, and adds x to the sum, which makes y
     module _
         {left t rest near c far i : ℕ}
         (p : Popped left t rest)
-        (eu : near ≡ at time u)
+        (eu : near ≡ at time u + stay s passing u)
         (ec : c ≡ at cost (u * n + t))
         (et : far ≡ at time t)
         (ei : Picked (eqb (near + c) far) t s i)
       where
         -- off the tight links the flow is the source's, which is none
-        taken : at psi i ≡ ifTight n u cost time t (at psi t)
-        taken = rw (ei .is, eu, ec, et) (pick (eqb (viaOf n u cost time t) (at time t)))
+        taken : at psi i ≡ ifTight n s u cost passing time t (at psi t)
+        taken = rw (ei .is, eu, ec, et) (pick (eqb (viaOf n s u cost passing time t) (at time t)))
           where
             pick : (b : Bool) → at psi (cond b t s) ≡ cond b (at psi t) 0
             pick true = refl
@@ -111,7 +111,7 @@ module _ (n s u links : ℕ) (cost time ways psi old : List ℕ) (before : Bool)
             let (l, _, _, _) = walking-inside w p in
             record {
               sums = length-set sum t y ∙ w .sums;
-              flows = omega (arith, taken, w .flows, sum-popped n (λ t. ifTight n u cost time t (at psi t)) p l);
+              flows = omega (arith, taken, w .flows, sum-popped n (λ t. ifTight n s u cost passing time t (at psi t)) p l);
               added = rewriting-goes links _ _ (w .added) p
                   (getD-set-same sum t y 0 (omega (arith, w .sums, asked .most)) ∙ rw (ey, ex .is, em, eu, ec, et, w .added .todo t (p .member)))
                   (λ v h. getD-set-other sum t v y 0 h);
@@ -124,10 +124,10 @@ module _ (n s u links : ℕ) (cost time ways psi old : List ℕ) (before : Bool)
               good = λ z all. ap₂ _||_ (w .good z all) (le-ltb (near + c) far (omega (arith, all t (w .added .inside t (p .member)))));
             }
 
-    pub walking-ends : {flow : ℕ} {sum : List ℕ} {bad : Bool} → Walking 0 sum flow bad → Scans n u links cost time ways psi old sum before flow bad
+    pub walking-ends : {flow : ℕ} {sum : List ℕ} {bad : Bool} → Walking 0 sum flow bad → Scans n s u links cost passing time ways psi old sum before flow bad
     walking-ends {flow} w = record {
       sums = w .sums;
-      flows = omega (arith, w .flows, sum-none n (λ t. ifTight n u cost time t (at psi t)));
+      flows = omega (arith, w .flows, sum-none n (λ t. ifTight n s u cost passing time t (at psi t)));
       relaxed = λ e. let (z, k) = w .relaxed e in (z, λ t h. k t h (has-none t));
       good = w .good;
       added = rewriting-ends links _ _ (w .added);

@@ -11,7 +11,7 @@ struct Scanned {
     bad: bool,
 }
 
-// Goes over the links from u to the stops of a set, and adds the ways of u at the ends of the tight ones.
+// Goes over the links from u to the stops of a set, on routes from s, and adds the ways of u at the ends of the tight ones.
 // From a stop without a time no link is tight and none improves a time: its way is longer than the mark.
 fn scan(
     n: usize,
@@ -19,19 +19,20 @@ fn scan(
     u: usize,
     links: u64,
     cost: &[u32],
+    passing: &[u32],
     time: &[u32],
     ways: &[u32],
     psi: &[u64; 64],
     sum: &mut [u16; 64],
     bad: bool,
 ) -> Scanned
-    requires { ⌜ Scan n s u links (now cost) (now time) (now ways) (now psi) (now sum) ⌝ }
-    ensures { λ r. ⌜ Scans n u links (now (cost .entry)) (now (time .entry)) (now (ways .entry)) (now (psi .entry)) (now (sum .entry)) (now (sum .exit)) bad (r .flow) (r .bad) ⌝ }
+    requires { ⌜ Scan n s u links (now cost) (now passing) (now time) (now ways) (now psi) (now sum) ⌝ }
+    ensures { λ r. ⌜ Scans n s u links (now (cost .entry)) (now (passing .entry)) (now (time .entry)) (now (ways .entry)) (now (psi .entry)) (now (sum .entry)) (now (sum .exit)) bad (r .flow) (r .bad) ⌝ }
 {
     let base = u * n;
     let end = base + n;
     let row = &cost[base..end];
-    let near = numbers::wide(time[u]);
+    let near = numbers::wide(time[u]) + numbers::wide(numbers::stay(s, u, passing));
     let more = counts::of_entry(ways[u]);
     let mut flow: u64 = 0;
     let mut worse = bad;
@@ -55,6 +56,7 @@ pub fn flows(
     n: usize,
     s: usize,
     cost: &[u32],
+    passing: &[u32],
     out: &[u64; 64],
     time: &[u32],
     ways: &[u32],
@@ -62,12 +64,12 @@ pub fn flows(
     sum: &mut [u16; 64],
     flow: &mut [u64; 64],
 ) -> bool
-    requires { ⌜ Balance n s (now cost) (now out) (now time) (now ways) (now psi) (now sum) (now flow) ⌝ }
-    ensures { λ r. ⌜ Balanced n s (now (cost .entry)) (now (out .entry)) (now (time .entry)) (now (ways .entry)) (now (psi .entry)) (now (sum .exit)) (now (flow .exit)) r ⌝ }
+    requires { ⌜ Balance n s (now cost) (now passing) (now out) (now time) (now ways) (now psi) (now sum) (now flow) ⌝ }
+    ensures { λ r. ⌜ Balanced n s (now (cost .entry)) (now (passing .entry)) (now (out .entry)) (now (time .entry)) (now (ways .entry)) (now (psi .entry)) (now (sum .exit)) (now (flow .exit)) r ⌝ }
 {
     let mut bad = false;
     for u in 0..n {
-        let r = scan(n, s, u, out[u], cost, time, ways, psi, sum, bad);
+        let r = scan(n, s, u, out[u], cost, passing, time, ways, psi, sum, bad);
         flow[u] = r.flow;
         bad = r.bad;
     }

@@ -5,14 +5,15 @@ mod tests;
 
 ghost use mathlib.Core.Path.{_≡_};
 ghost use lib.ListN.{length};
-ghost use Rattle.links.specs.Promise.{masked, Task};
+ghost use Rattle.links.specs.Promise.{maskedFrom, Task};
 ghost use Rattle.row_check.specs.Promise.{isRow};
 
-// The three parts are the row of source s over the links of the masks.
+// The three parts are the row of source s over the links of the masks and the passing times.
 pub fn check(
     n: usize,
     s: usize,
     cost: &[u32],
+    passing: &[u32],
     out: &[u64; 64],
     scale: u64,
     limit: u32,
@@ -21,9 +22,9 @@ pub fn check(
     ways: &[u32],
     share: &[u64],
 ) -> bool
-    requires { ⌜ Task n s (now cost) (now out) scale limit mark ⌝ }
+    requires { ⌜ Task n s (now cost) (now passing) (now out) scale limit mark ⌝ }
     requires { ⌜ (length (now time) ≡ n) × (length (now ways) ≡ n) × (length (now share) ≡ n) ⌝ }
-    ensures { λ r. ⌜ r ≡ isRow (masked n (now (cost .entry)) (now (out .entry))) n s limit scale (now (time .entry)) (now (ways .entry)) (now (share .entry)) ⌝ }
+    ensures { λ r. ⌜ r ≡ isRow (maskedFrom n s (now (cost .entry)) (now (passing .entry)) (now (out .entry))) n s limit scale (now (time .entry)) (now (ways .entry)) (now (share .entry)) ⌝ }
 {
     if !tests::at_source(n, s, time, ways, share) {
         return false;
@@ -41,7 +42,18 @@ pub fn check(
     handed::hand_back(n, s, limit, scale, ways, share, &mut psi);
     let mut sum = [0u16; 64];
     let mut flow = [0u64; 64];
-    if flows::flows(n, s, cost, out, time, ways, &psi, &mut sum, &mut flow) {
+    if flows::flows(
+        n,
+        s,
+        cost,
+        passing,
+        out,
+        time,
+        ways,
+        &psi,
+        &mut sum,
+        &mut flow,
+    ) {
         return false;
     }
     tests::balanced(n, ways, share, &flow) & tests::counted(n, limit + 1, ways, &sum)

@@ -88,21 +88,21 @@ module _ (n set : ℕ) (f : ℕ → Bool) {a t b : ℕ} (p : Popped a t b) (memb
       last e = rw (member, p .rest t, eq-eqb t t refl, and-false) at e
 
 -- the loop over a set of sources: those that are not left are worked out, and their crowded pairs are known
-pub record FillingRows (m L : ℕ) (W : Costs) (n set left : ℕ) (time₀ ways₀ share₀ time ways share : List ℕ) (crowded : Bool) : Type 0 where
+pub record FillingRows (m L : ℕ) (C : ℕ → Costs) (n set left : ℕ) (time₀ ways₀ share₀ time ways share : List ℕ) (crowded : Bool) : Type 0 where
   pub lengths : Square n time ways share
-  pub rows : Rewriting set left (rowOf m L W n) (parts n time₀ ways₀ share₀) (parts n time ways share)
+  pub rows : Rewriting set left (λ s. rowOf m L (C s) n s) (parts n time₀ ways₀ share₀) (parts n time ways share)
   pub word : left < 2 ^ 64
-  pub said : crowded ≡ not (allTo n (λ s. not (has set s) || (has left s || free m W n s)))
+  pub said : crowded ≡ not (allTo n (λ s. not (has set s) || (has left s || free m (C s) n s)))
 
-module _ (m L : ℕ) (W : Costs) (n set : ℕ) (time₀ ways₀ share₀ : List ℕ) where
-  pub filling-starts : Square n time₀ ways₀ share₀ → set < 2 ^ 64 → FillingRows m L W n set set time₀ ways₀ share₀ time₀ ways₀ share₀ false
-  filling-starts q h = record { lengths = q; rows = rewriting-starts set (rowOf m L W n) (parts n time₀ ways₀ share₀); word = h; said = ap not (sym (all-of n _ (λ s l. either (has set s) (free m W n s)))) }
+module _ (m L : ℕ) (C : ℕ → Costs) (n set : ℕ) (time₀ ways₀ share₀ : List ℕ) where
+  pub filling-starts : Square n time₀ ways₀ share₀ → set < 2 ^ 64 → FillingRows m L C n set set time₀ ways₀ share₀ time₀ ways₀ share₀ false
+  filling-starts q h = record { lengths = q; rows = rewriting-starts set (λ s. rowOf m L (C s) n s) (parts n time₀ ways₀ share₀); word = h; said = ap not (sym (all-of n _ (λ s l. either (has set s) (free m (C s) n s)))) }
     where
       either : (a b : Bool) → (not a || (a || b)) ≡ true
       either true b = refl
       either false b = refl
 
-  module _ {left : ℕ} {time ways share : List ℕ} {crowded : Bool} (r : FillingRows m L W n set left time₀ ways₀ share₀ time ways share crowded) (some : 0 < left)
+  module _ {left : ℕ} {time ways share : List ℕ} {crowded : Bool} (r : FillingRows m L C n set left time₀ ways₀ share₀ time ways share crowded) (some : 0 < left)
       (inside : (s : ℕ) → has set s ≡ true → s < n) where
     lowest : Popped left (trailingZeros 64 left) (bitAnd left (left - 1))
     lowest = popped left some (r .word)
@@ -114,25 +114,25 @@ module _ (m L : ℕ) (W : Costs) (n set : ℕ) (time₀ ways₀ share₀ : List 
     pub next-less : bitAnd left (left - 1) < left
     next-less = lowest .less
 
-    more : allTo n (λ s. not (has set s) || (has (bitAnd left (left - 1)) s || free m W n s)) ≡
-        (allTo n (λ s. not (has set s) || (has left s || free m W n s)) && free m W n (trailingZeros 64 left))
-    more = all-popped n set (free m W n) lowest (r .rows .inside (trailingZeros 64 left) (lowest .member)) next-below
+    more : allTo n (λ s. not (has set s) || (has (bitAnd left (left - 1)) s || free m (C s) n s)) ≡
+        (allTo n (λ s. not (has set s) || (has left s || free m (C s) n s)) && free m (C (trailingZeros 64 left)) n (trailingZeros 64 left))
+    more = all-popped n set (λ s. free m (C s) n s) lowest (r .rows .inside (trailingZeros 64 left) (lowest .member)) next-below
 
-    pub filling-goes : {time′ ways′ share′ : List ℕ} {c : Bool} → FilledRow m L W n (trailingZeros 64 left) time ways share time′ ways′ share′ c →
-        FillingRows m L W n set (bitAnd left (left - 1)) time₀ ways₀ share₀ time′ ways′ share′ (crowded || c)
+    pub filling-goes : {time′ ways′ share′ : List ℕ} {c : Bool} → FilledRow m L (C (trailingZeros 64 left)) n (trailingZeros 64 left) time ways share time′ ways′ share′ c →
+        FillingRows m L C n set (bitAnd left (left - 1)) time₀ ways₀ share₀ time′ ways′ share′ (crowded || c)
     filling-goes {time′} {ways′} {share′} {c} d = record {
       lengths = d .lengths;
-      rows = rewriting-goes set (rowOf m L W n) (parts n time₀ ways₀ share₀) (r .rows) lowest (d .row) (d .others);
+      rows = rewriting-goes set (λ s. rowOf m L (C s) n s) (parts n time₀ ways₀ share₀) (r .rows) lowest (d .row) (d .others);
       word = omega (arith, r .word, next-less);
-      said = rw (r .said, d .said, more) (neither (allTo n (λ s. not (has set s) || (has left s || free m W n s))));
+      said = rw (r .said, d .said, more) (neither (allTo n (λ s. not (has set s) || (has left s || free m (C s) n s))));
     }
       where
-        neither : (b : Bool) → (not b || not (free m W n (trailingZeros 64 left))) ≡ not (b && free m W n (trailingZeros 64 left))
+        neither : (b : Bool) → (not b || not (free m (C (trailingZeros 64 left)) n (trailingZeros 64 left))) ≡ not (b && free m (C (trailingZeros 64 left)) n (trailingZeros 64 left))
         neither true = refl
         neither false = refl
 
-  pub filling-ends : {left : ℕ} {time ways share : List ℕ} {crowded : Bool} → left ≡ 0 → FillingRows m L W n set left time₀ ways₀ share₀ time ways share crowded → FilledRows m L W n set time₀ ways₀ share₀ time ways share crowded
-  filling-ends {left} {time} {ways} {share} {crowded} e r = record { lengths = r .lengths; rows = rewriting-ends set (rowOf m L W n) (parts n time₀ ways₀ share₀) (rw e at (r .rows)); said = r .said ∙ ap not (all-cong n (λ s l. rw (e, has-none s))) }
+  pub filling-ends : {left : ℕ} {time ways share : List ℕ} {crowded : Bool} → left ≡ 0 → FillingRows m L C n set left time₀ ways₀ share₀ time ways share crowded → FilledRows m L C n set time₀ ways₀ share₀ time ways share crowded
+  filling-ends {left} {time} {ways} {share} {crowded} e r = record { lengths = r .lengths; rows = rewriting-ends set (λ s. rowOf m L (C s) n s) (parts n time₀ ways₀ share₀) (rw e at (r .rows)); said = r .said ∙ ap not (all-cong n (λ s l. rw (e, has-none s))) }
 
 -- the n lowest bits, as `!0 >> (64 - n)` gives them
 pub has-all-sources : (n : ℕ) → n ≤ 64 → (s : ℕ) → has (18446744073709551615 / 2 ^ (64 - n)) s ≡ ltb s n

@@ -9,9 +9,9 @@ ghost use mathlib.Core.Path.{_≡_};
 ghost use mathlib.Core.Bool.{true};
 ghost use Prim.Native.Nat.{_<_, _≤_};
 ghost use lib.ListN.{length};
-ghost use Rattle.links.specs.Promise.{masked};
+ghost use Rattle.links.specs.Promise.{maskedFrom};
 ghost use Rattle.row_check.specs.Promise.{isRow};
-ghost use Rattle.book.specs.Hall.{sized, right as isRight};
+ghost use Rattle.book.specs.Hall.{sized, validPassing, right as isRight};
 ghost use Rattle.book.specs.Contract.{these, found};
 ghost use Rattle.cells.specs.Promise.{Shares};
 ghost use Rattle.tables.specs.Promise.{part, Measure, Job, Square, noShortcut, rowsPass, scoresPass};
@@ -35,16 +35,17 @@ fn row_passes(
     n: usize,
     s: usize,
     cost: &[u32],
+    passing: &[u32],
     out: &[u64; 64],
     time: &[u32],
     ways: &[u32],
     share: &[u64],
 ) -> bool
     requires { ⌜ Measure limit scale ⌝ }
-    requires { ⌜ Job n (now cost) (now out) ⌝ }
+    requires { ⌜ Job n (now cost) (now passing) (now out) ⌝ }
     requires { ⌜ Square n (now time) (now ways) (now share) ⌝ }
     requires { ⌜ s < n ⌝ }
-    ensures { λ r. ⌜ r ≡ isRow (masked n (now (cost .entry)) (now (out .entry))) n s limit scale (part n (now (time .entry)) s) (part n (now (ways .entry)) s) (part n (now (share .entry)) s) ⌝ }
+    ensures { λ r. ⌜ r ≡ isRow (maskedFrom n s (now (cost .entry)) (now (passing .entry)) (now (out .entry))) n s limit scale (part n (now (time .entry)) s) (part n (now (ways .entry)) s) (part n (now (share .entry)) s) ⌝ }
 {
     let at = places::start(n, s);
     let end = at + n;
@@ -52,6 +53,7 @@ fn row_passes(
         n,
         s,
         cost,
+        passing,
         out,
         scale,
         limit,
@@ -67,19 +69,20 @@ fn rows_pass(
     scale: u64,
     n: usize,
     cost: &[u32],
+    passing: &[u32],
     out: &[u64; 64],
     time: &[u32],
     ways: &[u32],
     share: &[u64],
 ) -> bool
     requires { ⌜ Measure limit scale ⌝ }
-    requires { ⌜ Job n (now cost) (now out) ⌝ }
+    requires { ⌜ Job n (now cost) (now passing) (now out) ⌝ }
     requires { ⌜ Square n (now time) (now ways) (now share) ⌝ }
-    ensures { λ r. ⌜ r ≡ rowsPass limit scale n (now (cost .entry)) (now (out .entry)) (now (time .entry)) (now (ways .entry)) (now (share .entry)) ⌝ }
+    ensures { λ r. ⌜ r ≡ rowsPass limit scale n (now (cost .entry)) (now (passing .entry)) (now (out .entry)) (now (time .entry)) (now (ways .entry)) (now (share .entry)) ⌝ }
 {
     let mut good = true;
     for s in 0..n {
-        good &= row_passes(limit, scale, n, s, cost, out, time, ways, share);
+        good &= row_passes(limit, scale, n, s, cost, passing, out, time, ways, share);
     }
     good
 }
@@ -105,14 +108,16 @@ pub fn right(
     scale: u64,
     n: usize,
     cost: &[u32],
+    passing: &[u32],
     time: &[u32],
     ways: &[u32],
     share: &[u64],
     score: &[u64],
 ) -> bool
     requires { ⌜ Measure limit scale ⌝ }
-    requires { ⌜ (0 < n) × (n ≤ 64) × (sized n (these cost time ways share score) ≡ true) ⌝ }
-    ensures { λ r. ⌜ r ≡ isRight scale limit n (found cost time ways share score) ⌝ }
+    requires { ⌜ (0 < n) × (n ≤ 64) × (sized n (these cost passing time ways share score) ≡ true) ⌝ }
+    requires { ⌜ validPassing n (now passing) ≡ true ⌝ }
+    ensures { λ r. ⌜ r ≡ isRight scale limit n (found cost passing time ways share score) ⌝ }
 {
     if !costs::valid(n, cost) {
         return false;
@@ -122,7 +127,7 @@ pub fn right(
     }
     let mut out = [0u64; 64];
     useful_links(n, cost, time, &mut out);
-    if !rows_pass(limit, scale, n, cost, &out, time, ways, share) {
+    if !rows_pass(limit, scale, n, cost, passing, &out, time, ways, share) {
         return false;
     }
     if !costs::within(limit, ways) {

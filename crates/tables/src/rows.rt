@@ -7,7 +7,7 @@ ghost use mathlib.Core.Bool.{true};
 ghost use Prim.Native.Nat.{ℕ, _<_, _≤_};
 ghost use lib.Dec.{ltb};
 ghost use Rattle.routes.specs.Route.{has};
-ghost use Rattle.links.specs.Promise.{masked};
+ghost use Rattle.links.specs.Promise.{maskedFrom};
 ghost use Rattle.tables.specs.Promise.{Measure, Job, Square, FilledRow, FilledRows};
 
 // The set of all sources.
@@ -26,16 +26,17 @@ fn fill_row(
     n: usize,
     s: usize,
     cost: &[u32],
+    passing: &[u32],
     out: &[u64; 64],
     time: &mut [u32],
     ways: &mut [u32],
     share: &mut [u64],
 ) -> bool
     requires { ⌜ Measure limit scale ⌝ }
-    requires { ⌜ Job n (now cost) (now out) ⌝ }
+    requires { ⌜ Job n (now cost) (now passing) (now out) ⌝ }
     requires { ⌜ Square n (now time) (now ways) (now share) ⌝ }
     requires { ⌜ s < n ⌝ }
-    ensures { λ r. ⌜ FilledRow limit scale (masked n (now (cost .entry)) (now (out .entry))) n s (now (time .entry)) (now (ways .entry)) (now (share .entry)) (now (time .exit)) (now (ways .exit)) (now (share .exit)) r ⌝ }
+    ensures { λ r. ⌜ FilledRow limit scale (maskedFrom n s (now (cost .entry)) (now (passing .entry)) (now (out .entry))) n s (now (time .entry)) (now (ways .entry)) (now (share .entry)) (now (time .exit)) (now (ways .exit)) (now (share .exit)) r ⌝ }
 {
     let at = places::start(n, s);
     let end = at + n;
@@ -43,6 +44,7 @@ fn fill_row(
         n,
         s,
         cost,
+        passing,
         out,
         scale,
         limit,
@@ -60,22 +62,23 @@ pub fn fill_rows(
     n: usize,
     set: u64,
     cost: &[u32],
+    passing: &[u32],
     out: &[u64; 64],
     time: &mut [u32],
     ways: &mut [u32],
     share: &mut [u64],
 ) -> bool
     requires { ⌜ Measure limit scale ⌝ }
-    requires { ⌜ Job n (now cost) (now out) ⌝ }
+    requires { ⌜ Job n (now cost) (now passing) (now out) ⌝ }
     requires { ⌜ Square n (now time) (now ways) (now share) ⌝ }
     requires { ⌜ ((s : ℕ) → has set s ≡ true → s < n) ⌝ }
-    ensures { λ r. ⌜ FilledRows limit scale (masked n (now (cost .entry)) (now (out .entry))) n set (now (time .entry)) (now (ways .entry)) (now (share .entry)) (now (time .exit)) (now (ways .exit)) (now (share .exit)) r ⌝ }
+    ensures { λ r. ⌜ FilledRows limit scale (λ s. maskedFrom n s (now (cost .entry)) (now (passing .entry)) (now (out .entry))) n set (now (time .entry)) (now (ways .entry)) (now (share .entry)) (now (time .exit)) (now (ways .exit)) (now (share .exit)) r ⌝ }
 {
     let mut left = set;
     let mut crowded = false;
     while left != 0 {
         let s = u64::trailing_zeros(left) as usize;
-        crowded |= fill_row(limit, scale, n, s, cost, out, time, ways, share);
+        crowded |= fill_row(limit, scale, n, s, cost, passing, out, time, ways, share);
         left &= left - 1;
     }
     crowded

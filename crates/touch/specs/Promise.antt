@@ -6,20 +6,22 @@ use mathlib.Core.List.{List}
 use lib.Dec.{eqb, ltb, leb}
 use lib.ListN.{length, getD}
 use Rattle.routes.specs.Route.{mark, setOf, has}
+use Rattle.links.specs.Promise.{stay}
 use Rattle.book.specs.Hall.{entry}
 
 -- a link goes, or its cost rises; else it comes, or its cost falls (0 is no link)
 abbrev pub rises : (old new : ℕ) → Bool
 rises old new = eqb new 0 || (ltb 0 old && ltb old new)
 
--- by the old times to its ends the link is on a quickest route, at its old cost where that rises, else at its new one
-abbrev pub crosses : Bool → (old new near far : ℕ) → Bool
-crosses rising old new near far = not (eqb near mark) && cond rising (eqb (near + old) far) (leb (near + new) far)
+-- by the old times to its ends, and what it takes to pass its first one, the link is on a quickest route, at its old cost where that
+-- rises, else at its new one
+abbrev pub crosses : Bool → (old new near stay far : ℕ) → Bool
+crosses rising old new near stay far = not (eqb near mark) && cond rising (eqb (near + stay + old) far) (leb (near + stay + new) far)
 
 -- the sources from which that holds where the link u to v gets the cost new
-pub record Found (n u v new : ℕ) (cost times : List ℕ) (sources : ℕ) : Type 0 where
+pub record Found (n u v new : ℕ) (cost passing times : List ℕ) (sources : ℕ) : Type 0 where
   pub found : let old : ℕ = entry n cost u v in
-      sources ≡ setOf n (λ s. crosses (rises old new) old new (entry n times s u) (entry n times s v))
+      sources ≡ setOf n (λ s. crosses (rises old new) old new (entry n times s u) (stay s passing u) (entry n times s v))
 
 -- a set of links that holds the link u to v alone
 abbrev pub oneLink : (u v : ℕ) → ℕ → ℕ → Bool

@@ -9,8 +9,11 @@ use super::image;
 use super::image::Image;
 use super::outcome::Ask;
 use super::output::written;
+use super::passing;
+use super::passing::stretched;
 use super::places::BYTES;
 use super::places::CELLS;
+use super::places::STOPS;
 use super::places::byte;
 use super::places::put_byte;
 use calls::answer::Answer;
@@ -33,6 +36,7 @@ use calls::entries::at;
 use calls::entries::at_long;
 use calls::entries::put;
 use calls::entries::put_long;
+use calls::lengths::TABLES;
 use calls::list::List;
 use calls::list::no_edits;
 use calls::tables;
@@ -98,7 +102,7 @@ fn odd(seed: &mut u64) -> u64 {
     if 0 < draw(seed, 16) {
         return 0;
     }
-    1 + draw(seed, 10)
+    1 + draw(seed, 2 * TABLES)
 }
 
 // A stop: rarely one that the hall has not.
@@ -196,15 +200,15 @@ pub fn price(seed: &mut u64, u: u64, v: u64) -> u64 {
     }
 }
 
-// The cost that a call brings: that of a cheapen or a raise is often near the present one.
-fn cost_of(seed: &mut u64, call: u64, u: u64, v: u64, present: u64) -> u64 {
+// The cost that a call brings where stops take p to pass: that of a cheapen or a raise is often near the present one.
+fn cost_of(seed: &mut u64, call: u64, u: u64, v: u64, present: u64, p: u64) -> u64 {
     match call {
         CHEAPEN | RAISE => if once_in(seed, 2) {
             near(seed, present)
         } else {
-            price(seed, u, v)
+            stretched(price(seed, u, v), p)
         },
-        _ => price(seed, u, v),
+        _ => stretched(price(seed, u, v), p),
     }
 }
 
@@ -310,13 +314,26 @@ fn room(seed: &mut u64, length: usize) -> usize {
 }
 
 // A buffer to write.
-fn buffer(seed: &mut u64, call: Call, stops: u64, cost: [u32; CELLS], bytes: [u8; BYTES]) -> Image {
-    let length = room(seed, written(call, stops, cost, bytes).length);
+fn buffer(
+    seed: &mut u64,
+    call: Call,
+    stops: u64,
+    cost: [u32; CELLS],
+    passing: [u32; STOPS],
+    bytes: [u8; BYTES],
+) -> Image {
+    let length = room(seed, written(call, stops, cost, passing, bytes).length);
     Image { bytes, length }
 }
 
 // The bytes of a call.
-fn bytes(seed: &mut u64, call: Call, stops: u64, cost: [u32; CELLS]) -> Image {
+fn bytes(
+    seed: &mut u64,
+    call: Call,
+    stops: u64,
+    cost: [u32; CELLS],
+    passing: [u32; STOPS],
+) -> Image {
     let mut bytes = [0u8; BYTES];
     let number = call.number;
     match number {
@@ -326,30 +343,31 @@ fn bytes(seed: &mut u64, call: Call, stops: u64, cost: [u32; CELLS]) -> Image {
         }
         IMAGE_WRITE | LIST_ROUTES => {
             fill(seed, &mut bytes);
-            buffer(seed, call, stops, cost, bytes)
+            buffer(seed, call, stops, cost, passing, bytes)
         }
         _ => Image { bytes, length: 0 },
     }
 }
 
 // The cost table of a call.
-fn table(seed: &mut u64, call: u64, stops: u64) -> [u32; CELLS] {
+fn table(seed: &mut u64, call: u64, stops: u64, passing: &[u32; STOPS]) -> [u32; CELLS] {
     if call == WORK_OUT {
-        return brought(seed, stops);
+        let cost = brought(seed, stops);
+        return passing::matched(seed, stops, passing, cost);
     }
     [0; CELLS]
 }
 
 // The list of a call.
-fn list(seed: &mut u64, call: u64, stops: u64, cost: [u32; CELLS]) -> List {
+fn list(seed: &mut u64, call: u64, stops: u64, cost: [u32; CELLS], p: u64) -> List {
     if call == EDIT_LIST {
-        return draft::list(seed, stops, cost);
+        return draft::list(seed, stops, cost, p);
     }
     no_edits()
 }
 
-// The call with its numbers.
-fn numbered(seed: &mut u64, number: u64, stops: u64, cost: &[u32; CELLS]) -> Call {
+// The call with its numbers, in a hall whose first stop takes p to pass.
+fn numbered(seed: &mut u64, number: u64, stops: u64, cost: &[u32; CELLS], p: u64) -> Call {
     let ends = ends(seed, number, stops, cost);
     let present = at(cost, place(stops, ends.0, ends.1));
     Call {
@@ -357,22 +375,31 @@ fn numbered(seed: &mut u64, number: u64, stops: u64, cost: &[u32; CELLS]) -> Cal
         n: size(seed, stops),
         u: ends.0,
         v: ends.1,
-        cost: cost_of(seed, number, ends.0, ends.1, present),
+        cost: cost_of(seed, number, ends.0, ends.1, present, p),
     }
 }
 
-// The call with its arguments, on a hall with these costs.
-pub fn ask(seed: &mut u64, number: u64, stops: u64, cost: [u32; CELLS]) -> Ask {
-    let call = numbered(seed, number, stops, &cost);
-    let image = bytes(seed, call, stops, cost);
+// The call with its arguments, on a hall with these costs and passing times.
+pub fn ask(
+    seed: &mut u64,
+    number: u64,
+    stops: u64,
+    cost: [u32; CELLS],
+    present: [u32; STOPS],
+) -> Ask {
+    let p = at(&present, 0);
+    let call = numbered(seed, number, stops, &cost, p);
+    let image = bytes(seed, call, stops, cost, present);
     let bytes = image.bytes;
-    let table = table(seed, number, stops);
-    let list = list(seed, number, stops, cost);
+    let passing = passing::lent(seed, number, stops, present);
+    let table = table(seed, number, stops, &passing);
+    let list = list(seed, number, stops, cost, p);
     Ask {
         call,
         odd: odd(seed),
         list,
         cost: table,
+        passing,
         bytes,
         length: image.length,
     }
@@ -392,6 +419,7 @@ pub fn reversal(ask: Ask, answer: Answer) -> Ask {
     let made = ask.call;
     let list = ask.list;
     let cost = ask.cost;
+    let passing = ask.passing;
     let bytes = ask.bytes;
     let call = Call {
         number: opposite(made.number),
@@ -405,13 +433,14 @@ pub fn reversal(ask: Ask, answer: Answer) -> Ask {
         odd: ask.odd,
         list,
         cost,
+        passing,
         bytes,
         length: ask.length,
     }
 }
 
-// The call with which a sequence starts.
-pub fn start(number: u64, stops: u64) -> Ask {
+// The call with which a sequence starts, and the passing times that it brings.
+pub fn start(number: u64, stops: u64, passing: [u32; STOPS]) -> Ask {
     let call = plain(number, stops);
     let cost = [0u32; CELLS];
     let bytes = [0u8; BYTES];
@@ -420,6 +449,7 @@ pub fn start(number: u64, stops: u64) -> Ask {
         odd: 0,
         list: no_edits(),
         cost,
+        passing,
         bytes,
         length: 0,
     }
@@ -471,17 +501,30 @@ fn change_cost(seed: &mut u64, table: &mut [u32], i: usize, here: bool) {
     }
 }
 
-// Changes one entry of five tables.
+// The same for the passing times.
+fn change_passing(seed: &mut u64, table: &mut [u32], v: usize, here: bool) {
+    let mut x = draw(seed, 3);
+    if once_in(seed, 3) {
+        x = passing::too_large(seed);
+    }
+    if here {
+        put(table, v, x);
+    }
+}
+
+// Changes one entry of six tables, and now and then a passing time too.
 fn spoil(
     seed: &mut u64,
     stops: u64,
     cost: &mut [u32; tables::CELLS],
+    passing: &mut [u32; tables::STOPS],
     time: &mut [u32; tables::CELLS],
     ways: &mut [u32; tables::CELLS],
     share: &mut [u64; tables::CELLS],
     score: &mut [u64; tables::STOPS],
 ) {
-    let which = draw(seed, 5);
+    let which = draw(seed, 6);
+    let both = once_in(seed, 8);
     let i = draw(seed, cells(stops) as u64) as usize;
     let v = draw(seed, stops) as usize;
     change_cost(seed, cost, i, which == 0);
@@ -489,11 +532,13 @@ fn spoil(
     change(seed, ways, i, which == 2);
     change_long(seed, share, i, which == 3);
     change_long(seed, score, v, which == 4);
+    change_passing(seed, passing, v, both | (which == 5));
 }
 
-// The tables with one entry changed.
+// The tables with an entry or two changed.
 pub fn spoiled(seed: &mut u64, stops: u64, t: Tables) -> Tables {
     let mut cost = t.cost;
+    let mut passing = t.passing;
     let mut time = t.time;
     let mut ways = t.ways;
     let mut share = t.share;
@@ -502,6 +547,7 @@ pub fn spoiled(seed: &mut u64, stops: u64, t: Tables) -> Tables {
         seed,
         stops,
         &mut cost,
+        &mut passing,
         &mut time,
         &mut ways,
         &mut share,
@@ -509,6 +555,7 @@ pub fn spoiled(seed: &mut u64, stops: u64, t: Tables) -> Tables {
     );
     Tables {
         cost,
+        passing,
         time,
         ways,
         share,

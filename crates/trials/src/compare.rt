@@ -71,7 +71,7 @@ fn behind(n: u64, t: Tables, o: Tables) -> u64 {
     )
 }
 
-// Whether tables are not those of their own costs, or these are not valid, or a pair has more ways than the limit.
+// Whether tables are not those of their own costs and passing times, or these are not valid, or a pair has more ways than the limit.
 fn unlike_book(n: u64, t: Tables, seen: Book, limit: u64) -> bool {
     if model::bad_costs(n, &seen.cost) {
         return true;
@@ -112,14 +112,16 @@ pub fn reversed(former: Tables, undone: Answer, left: Tables, answer: Answer) ->
     )
 }
 
-// An outcome against its verdict. An accepted call leaves the tables of the book, and what stands behind them; a refused one
-// leaves all as it was.
+// An outcome against its verdict. An accepted call leaves the tables and the passing times of the book, and what stands behind
+// them; a refused one leaves all as it was.
 pub fn differences(n: u64, former: Tables, outcome: Outcome, verdict: Verdict) -> u64 {
     let left = outcome.tables;
     let book = verdict.book;
     let right = verdict.answer;
     let tables = if right.refusal == 0 {
-        wrapping_add_u64(with_book(n, left, book), behind(n, left, former))
+        let passing = short(&left.passing, &book.passing, stops(n));
+        let front = wrapping_add_u64(passing, with_book(n, left, book));
+        wrapping_add_u64(front, behind(n, left, former))
     } else {
         differing(left, former)
     };

@@ -8,6 +8,7 @@ use super::choose::price;
 use super::choose::suits;
 use super::model::edit_refusal;
 use super::model::edited_costs;
+use super::passing::stretched;
 use super::places::CELLS;
 use calls::call::CHEAPEN;
 use calls::call::Call;
@@ -22,13 +23,15 @@ use calls::tables::cells;
 use calls::tables::place;
 use std::num::wrapping_add_u64;
 
-// How a list is drawn: its length; which edit is to be refused, and with what; whether links get the distance of their stops
-// as cost, so that all routes forward tie; and from which edit on the list goes back to the hall before it.
+// How a list is drawn: its length; which edit is to be refused, and with what; whether links get a cost by the distance of their
+// stops, so that all routes forward tie if every stop takes p to pass; and from which edit on the list goes back to the hall
+// before it.
 struct Plan {
     length: u64,
     bad: u64,
     refusal: u64,
     even: bool,
+    p: u64,
     back: u64,
 }
 
@@ -52,7 +55,7 @@ fn length(seed: &mut u64) -> u64 {
 }
 
 // In half of the lists no edit is to be refused but for too many ways, and three of four do not go back.
-fn planned(seed: &mut u64) -> Plan {
+fn planned(seed: &mut u64, p: u64) -> Plan {
     let length = length(seed);
     let mut bad = length;
     if once_in(seed, 2) {
@@ -67,6 +70,7 @@ fn planned(seed: &mut u64) -> Plan {
         bad,
         refusal: 4 + draw(seed, 5),
         even: once_in(seed, 2),
+        p,
         back,
     }
 }
@@ -85,20 +89,25 @@ fn different(seed: &mut u64, stops: u64, even: bool) -> Pair {
     Pair(u, v)
 }
 
+// The cost of the link between two stops by their distance.
+fn even_cost(pair: Pair, p: u64) -> u64 {
+    stretched(apart(pair.0, pair.1), p)
+}
+
 // Whether two stops are wished for a call, where the present cost of their link is this: for an even list, if that is not
-// the distance.
-fn wished(call: u64, even: bool, pair: Pair, present: u64) -> bool {
+// by their distance.
+fn wished(call: u64, even: bool, p: u64, pair: Pair, present: u64) -> bool {
     if even {
-        return present != apart(pair.0, pair.1);
+        return present != even_cost(pair, p);
     }
     suits(call, present)
 }
 
 // Two different stops: where they are not wished, drawn anew up to seven times.
-fn fitting(seed: &mut u64, call: u64, stops: u64, even: bool, cost: &[u32; CELLS]) -> Pair {
+fn fitting(seed: &mut u64, call: u64, stops: u64, even: bool, p: u64, cost: &[u32; CELLS]) -> Pair {
     let mut pair = different(seed, stops, even);
     for i in 0u64..7 {
-        if !wished(call, even, pair, at(cost, place(stops, pair.0, pair.1))) {
+        if !wished(call, even, p, pair, at(cost, place(stops, pair.0, pair.1))) {
             pair = different(seed, stops, even);
         }
     }
@@ -130,9 +139,9 @@ fn to_cost(seed: &mut u64, stops: u64, pair: Pair, present: u64, cost: u64) -> C
     edit_of(RAISE, stops, pair, cost)
 }
 
-// Another cost for a link, 0 for none: in an even list the distance of its stops, unless it has that.
-fn other_cost(seed: &mut u64, pair: Pair, present: u64, even: bool) -> u64 {
-    let cost = some_cost(seed, apart(pair.0, pair.1), even);
+// Another cost for a link, 0 for none: in an even list that by the distance of its stops, unless it has that.
+fn other_cost(seed: &mut u64, pair: Pair, present: u64, even: bool, p: u64) -> u64 {
+    let cost = some_cost(seed, even_cost(pair, p), even);
     let none = (present != 0) & once_in(seed, 3);
     if cost != present {
         return if none & !even { 0 } else { cost };
@@ -141,11 +150,11 @@ fn other_cost(seed: &mut u64, pair: Pair, present: u64, even: bool) -> u64 {
 }
 
 // An edit that is accepted, but for too many ways, in a hall of two stops or more.
-fn good(seed: &mut u64, stops: u64, even: bool, cost: &[u32; CELLS]) -> Call {
+fn good(seed: &mut u64, stops: u64, even: bool, p: u64, cost: &[u32; CELLS]) -> Call {
     let wish = if once_in(seed, 2) { INSERT } else { DELETE };
-    let pair = fitting(seed, wish, stops, even, cost);
+    let pair = fitting(seed, wish, stops, even, p, cost);
     let present = at(cost, place(stops, pair.0, pair.1));
-    let other = other_cost(seed, pair, present, even);
+    let other = other_cost(seed, pair, present, even, p);
     to_cost(seed, stops, pair, present, other)
 }
 
@@ -161,13 +170,13 @@ fn strayed(stops: u64, cost: &[u32; CELLS], first: &[u32; CELLS]) -> usize {
 }
 
 // An edit that gives a link the cost that it has in another table.
-fn home(seed: &mut u64, stops: u64, even: bool, cost: &[u32; CELLS], first: &[u32; CELLS]) -> Call {
+fn home(seed: &mut u64, plan: Plan, stops: u64, cost: &[u32; CELLS], first: &[u32; CELLS]) -> Call {
     let i = strayed(stops, cost, first);
     if CELLS <= i {
-        return good(seed, stops, even, cost);
+        return good(seed, stops, plan.even, plan.p, cost);
     }
     if stops == 0 {
-        return good(seed, stops, even, cost);
+        return good(seed, stops, plan.even, plan.p, cost);
     }
     let pair = Pair(i as u64 / stops, i as u64 % stops);
     to_cost(seed, stops, pair, at(cost, i), at(first, i))
@@ -201,7 +210,7 @@ fn bad_cost(seed: &mut u64) -> u64 {
 
 // A cheapen that does not, or a raise that does not.
 fn wrong_side(seed: &mut u64, stops: u64, cost: &[u32; CELLS]) -> Call {
-    let pair = fitting(seed, DELETE, stops, false, cost);
+    let pair = fitting(seed, DELETE, stops, false, 0, cost);
     let present = at(cost, place(stops, pair.0, pair.1));
     let more = draw(seed, 3);
     if once_in(seed, 2) {
@@ -226,13 +235,13 @@ fn bad(seed: &mut u64, refusal: u64, stops: u64, cost: &[u32; CELLS]) -> Call {
         6 => edit_of(
             INSERT,
             stops,
-            fitting(seed, DELETE, stops, false, cost),
+            fitting(seed, DELETE, stops, false, 0, cost),
             1 + draw(seed, 4),
         ),
         7 => edit_of(
             CHEAPEN + draw(seed, 3),
             stops,
-            fitting(seed, INSERT, stops, false, cost),
+            fitting(seed, INSERT, stops, false, 0, cost),
             1 + draw(seed, 4),
         ),
         _ => wrong_side(seed, stops, cost),
@@ -252,9 +261,9 @@ fn drawn(
         return bad(seed, plan.refusal, stops, cost);
     }
     if plan.back <= i {
-        return home(seed, stops, plan.even, cost, first);
+        return home(seed, plan, stops, cost, first);
     }
-    good(seed, stops, plan.even, cost)
+    good(seed, stops, plan.even, plan.p, cost)
 }
 
 // The draft with one edit more.
@@ -271,9 +280,9 @@ fn longer(draft: Draft, stops: u64, call: Call) -> Draft {
     }
 }
 
-// A list for a hall with these costs.
-pub fn list(seed: &mut u64, stops: u64, first: [u32; CELLS]) -> List {
-    let plan = planned(seed);
+// A list for a hall with these costs, whose first stop takes p to pass.
+pub fn list(seed: &mut u64, stops: u64, first: [u32; CELLS], p: u64) -> List {
+    let plan = planned(seed, p);
     let mut draft = Draft {
         list: no_edits(),
         cost: first,

@@ -65,7 +65,7 @@ fn turns(ask: Ask, count: usize, stops: u64, book: Book) -> Standing {
     standing
 }
 
-// What a list must answer and leave that fails none of the tests 1, 2, 3 and 12.
+// What a list must answer and leave that fails none of the tests 1, 2, 13, 3 and 12.
 pub fn listed(ask: Ask, stops: u64, book: Book) -> Verdict {
     let end = turns(ask, ask.list.length, stops, book);
     let mut answer = of_number(end.refusal);

@@ -1,6 +1,6 @@
 // Sequences of calls at random on halls of one to seven stops, from an empty hall or a moved one. Each
-// answer, each table and each buffer is held against a book of links, the documents' rules of refusal
-// and the slow lister.
+// answer, each table and each buffer is held against a book of links and passing times, the documents'
+// rules of refusal and the slow lister.
 mod chance;
 mod choose;
 mod compare;
@@ -11,6 +11,8 @@ mod model;
 mod old;
 mod outcome;
 mod output;
+mod passed;
+mod passing;
 mod places;
 mod tally;
 
@@ -30,14 +32,16 @@ use chance::once_in;
 use model::Book;
 use outcome::Ask;
 use outcome::asked;
+use passing::brings;
 use places::CELLS;
+use places::STOPS;
 use places::byte;
 use tally::ROOM;
 use tally::add;
 
 const RUNS: u64 = 2500;
 
-// The book, the five tables, what the last call answered, and whether it was to be refused.
+// The book, the tables, what the last call answered, and whether it was to be refused.
 struct State {
     book: Book,
     hall: Tables,
@@ -74,10 +78,12 @@ fn note_list(tally: &mut [u64; ROOM], length: usize, answer: Answer, former: Tab
 }
 
 // Counts a route list: what it has, or by how much its buffer was too short.
-fn note_routes(tally: &mut [u64; ROOM], ask: Ask, stops: u64, cost: [u32; CELLS], refusal: u64) {
+fn note_routes(tally: &mut [u64; ROOM], ask: Ask, stops: u64, book: Book, refusal: u64) {
     let call = ask.call;
     let bytes = ask.bytes;
-    let list = output::written(call, stops, cost, bytes);
+    let cost = book.cost;
+    let passing = book.passing;
+    let list = output::written(call, stops, cost, passing, bytes);
     if refusal == 10 {
         tally::add_short(tally, list.length, ask.length);
     }
@@ -93,6 +99,15 @@ fn note_routes(tally: &mut [u64; ROOM], ask: Ask, stops: u64, cost: [u32; CELLS]
     }
 }
 
+// The passing times that a call is lent.
+fn lent(ask: Ask, tables: Tables) -> [u32; STOPS] {
+    if brings(ask.call.number) {
+        let brought = ask.passing;
+        return brought;
+    }
+    outcome::passing_times(tables)
+}
+
 // Makes a call, and counts what comes of it.
 fn trial(
     tally: &mut [u64; ROOM],
@@ -102,7 +117,9 @@ fn trial(
     tables: Tables,
     wrong: bool,
 ) -> State {
-    let verdict = model::expect(ask, stops, book, wrong);
+    let lent = lent(ask, tables);
+    let bad = passing::bad(stops, &lent);
+    let verdict = model::expect(ask, stops, book, bad, wrong);
     let made = asked(ask, stops, tables);
     let answer = made.answer;
     let left = made.tables;
@@ -112,12 +129,17 @@ fn trial(
     let differ = compare::differences(stops, tables, made, verdict);
     let ties = !refused & model::crowded(stops, &next.ways, 1);
     note(tally, ask.call.number, answer, differ, ties);
+    if bad {
+        passed::note_bad(tally, ask.call.number, answer.refusal, wrong);
+    }
+    if 0 < passing::above_zero(stops, &lent) {
+        passed::note_passing(tally, ask.call.number, stops, next, right.refusal, ties);
+    }
     if ask.call.number == EDIT_LIST {
         note_list(tally, ask.list.length, answer, tables, left);
     }
     if ask.call.number == LIST_ROUTES {
-        let cost = book.cost;
-        note_routes(tally, ask, stops, cost, answer.refusal);
+        note_routes(tally, ask, stops, book, answer.refusal);
     }
     State {
         book: next,
@@ -141,7 +163,7 @@ fn or_back(next: State, book: Book, hall: Tables) -> State {
     }
 }
 
-// A call on tables with one entry changed, which is put back where the call is refused. Where the
+// A call on tables with an entry or two changed, which are put back where the call is refused. Where the
 // tables are still right, they are those of another hall.
 fn spoiled_trial(
     seed: &mut u64,
@@ -153,41 +175,45 @@ fn spoiled_trial(
 ) -> State {
     add(tally, tally::SPOILED, 1);
     let tables = choose::spoiled(seed, stops, hall);
-    let seen = model::book_of(stops, outcome::costs(tables));
-    if !compare::wrong(stops, tables, seen) {
+    let passing = outcome::passing_times(tables);
+    let seen = model::book_of(stops, outcome::costs(tables), passing);
+    let wrong = compare::wrong(stops, tables, seen);
+    if !(wrong | passing::bad(stops, &passing)) {
         return trial(tally, ask, stops, seen, tables, false);
     }
-    let next = trial(tally, ask, stops, book, tables, true);
+    let next = trial(tally, ask, stops, book, tables, wrong);
     or_back(next, book, hall)
 }
 
-// A moving call on five tables, which it judges by the old numbers. Their costs are the book's.
-fn moving(tally: &mut [u64; ROOM], ask: Ask, stops: u64, tables: Tables) -> State {
-    let seen = model::book_of(stops, outcome::costs(tables));
+// A moving call on five tables, which it judges by the old numbers and passing times of 0. Their costs are the book's.
+fn moving(tally: &mut [u64; ROOM], ask: Ask, stops: u64, book: Book, tables: Tables) -> State {
     let wrong = compare::wrong_before(stops, tables);
-    let next = trial(tally, ask, stops, seen, tables, wrong);
+    let next = trial(tally, ask, stops, book, tables, wrong);
     tally::add_move(
         tally,
-        model::most_ways(stops, &seen.ways),
+        model::most_ways(stops, &book.ways),
         next.answer.refusal,
     );
     next
 }
 
-// The tables for a moving call: mostly the present ones; else these with one entry changed, or the old ones of their costs.
-fn to_move(seed: &mut u64, tally: &mut [u64; ROOM], stops: u64, hall: Tables) -> Tables {
-    let x = draw(seed, 8);
-    match x {
-        0 => {
-            add(tally, tally::SPOILED, 1);
-            choose::spoiled(seed, stops, hall)
-        }
-        1 => old::of_costs(stops, outcome::costs(hall), hall),
-        _ => hall,
-    }
+// A moving call on tables of another hall, which is moved over with passing times of 0.
+fn moving_other(tally: &mut [u64; ROOM], ask: Ask, stops: u64, other: Tables) -> State {
+    let tables = outcome::with_passing(&passing::none(), stops, other);
+    let book = model::book_of(stops, outcome::costs(tables), passing::none());
+    moving(tally, ask, stops, book, tables)
 }
 
-// A moving call within a sequence. Where it is refused, the present tables are put back.
+// The tables of another hall for a moving call: the present ones with an entry changed, or the old ones of their costs.
+fn to_move(seed: &mut u64, tally: &mut [u64; ROOM], stops: u64, hall: Tables) -> Tables {
+    if once_in(seed, 2) {
+        return old::of_costs(stops, outcome::costs(hall), hall);
+    }
+    add(tally, tally::SPOILED, 1);
+    choose::spoiled(seed, stops, hall)
+}
+
+// A moving call within a sequence, mostly on the present tables; where one on others is refused, the present ones are put back.
 fn moving_step(
     seed: &mut u64,
     tally: &mut [u64; ROOM],
@@ -197,8 +223,11 @@ fn moving_step(
 ) -> State {
     let book = state.book;
     let hall = state.hall;
-    let tables = to_move(seed, tally, stops, hall);
-    let next = moving(tally, ask, stops, tables);
+    if 0 < draw(seed, 4) {
+        return moving(tally, ask, stops, book, hall);
+    }
+    let other = to_move(seed, tally, stops, hall);
+    let next = moving_other(tally, ask, stops, other);
     or_back(next, book, hall)
 }
 
@@ -244,7 +273,8 @@ fn step(seed: &mut u64, tally: &mut [u64; ROOM], stops: u64, state: State, call:
     let book = state.book;
     let hall = state.hall;
     let cost = book.cost;
-    let ask = choose::ask(seed, call, stops, cost);
+    let passing = book.passing;
+    let ask = choose::ask(seed, call, stops, cost, passing);
     if call == MOVE_OVER {
         return moving_step(seed, tally, ask, stops, state);
     }
@@ -265,9 +295,9 @@ fn emptied(seed: &mut u64, tally: &mut [u64; ROOM], stops: u64, tables: Tables) 
     let none = [0u32; CELLS];
     let state = trial(
         tally,
-        choose::start(EMPTY_HALL, stops),
+        choose::start(EMPTY_HALL, stops, passing::drawn(seed, stops)),
         stops,
-        model::book_of(stops, none),
+        model::book_of(stops, none, passing::none()),
         tables,
         true,
     );
@@ -290,7 +320,8 @@ fn old_hall(seed: &mut u64, tally: &mut [u64; ROOM], stops: u64) -> Tables {
 // A moved hall; where it does not move over, an empty one.
 fn moved(seed: &mut u64, tally: &mut [u64; ROOM], stops: u64) -> State {
     let old = old_hall(seed, tally, stops);
-    let state = moving(tally, choose::start(MOVE_OVER, stops), stops, old);
+    let ask = choose::start(MOVE_OVER, stops, passing::none());
+    let state = moving_other(tally, ask, stops, old);
     let left = state.hall;
     let book = state.book;
     if state.refused {

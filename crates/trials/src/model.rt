@@ -1,10 +1,12 @@
-// What a call must answer and leave: document 01's rules over a book of links, and the lister's
-// tables of these links.
+// What a call must answer and leave: document 01's rules over a book of links and passing times, and the lister's
+// tables of these.
 use super::image;
 use super::image::Image;
 use super::in_turn;
 use super::outcome::Ask;
 use super::output::written;
+use super::passing;
+use super::passing::brings;
 use super::places::BYTES;
 use super::places::CELLS;
 use super::places::STOPS;
@@ -28,12 +30,15 @@ use calls::call::WORK_OUT;
 use calls::call::is_edit;
 use calls::entries::at;
 use calls::entries::at_long;
+use calls::lengths::PASSING;
+use calls::lengths::TABLES;
 use calls::tables::cells;
 use calls::tables::place;
 
-// The costs of a book's links, and the lister's tables of them.
+// The costs of a book's links, the passing times, and the lister's tables of them.
 pub struct Book {
     pub cost: [u32; CELLS],
+    pub passing: [u32; STOPS],
     pub time: [u64; CELLS],
     pub ways: [u64; CELLS],
     pub share: [u64; CELLS],
@@ -57,13 +62,14 @@ pub const OLD_WAYS: u64 = 22;
 const OLD_SCALE: u32 = 232792560;
 
 // By one of the scales.
-fn listed(n: u64, scale: u32, cost: [u32; CELLS]) -> Book {
+fn listed(n: u64, scale: u32, cost: [u32; CELLS], passing: [u32; STOPS]) -> Book {
     let mut time = [0u64; CELLS];
     let mut ways = [0u64; CELLS];
     let mut share = [0u64; CELLS];
     let mut score = [0u64; STOPS];
     lister::tables(
         &cost,
+        &passing,
         n,
         scale,
         &mut time,
@@ -73,6 +79,7 @@ fn listed(n: u64, scale: u32, cost: [u32; CELLS]) -> Book {
     );
     Book {
         cost,
+        passing,
         time,
         ways,
         share,
@@ -80,12 +87,13 @@ fn listed(n: u64, scale: u32, cost: [u32; CELLS]) -> Book {
     }
 }
 
-pub fn book_of(n: u64, cost: [u32; CELLS]) -> Book {
-    listed(n, SCALE, cost)
+pub fn book_of(n: u64, cost: [u32; CELLS], passing: [u32; STOPS]) -> Book {
+    listed(n, SCALE, cost, passing)
 }
 
+// With passing times of 0, which old halls have.
 pub fn old_book_of(n: u64, cost: [u32; CELLS]) -> Book {
-    listed(n, OLD_SCALE, cost)
+    listed(n, OLD_SCALE, cost, passing::none())
 }
 
 // Whether an entry of a cost table is one that work out refuses.
@@ -184,6 +192,14 @@ pub fn edit_refusal(call: Call, present: u64) -> u64 {
     if wrong_side(call, present) { 8 } else { 0 }
 }
 
+// Whether a table that a call takes has another length. A moving call takes no passing times.
+fn odd_length(call: Call, odd: u64) -> bool {
+    if call.number == MOVE_OVER {
+        return (odd != 0) & (odd != PASSING) & (odd != PASSING + TABLES);
+    }
+    odd != 0
+}
+
 // Refusals 1 and 2: n, and the lengths of the tables.
 fn size_refusal(call: Call, odd: u64, stops: u64) -> u64 {
     if call.n == 0 {
@@ -198,10 +214,15 @@ fn size_refusal(call: Call, odd: u64, stops: u64) -> u64 {
     if call.n != stops {
         return 2;
     }
-    if odd != 0 {
+    if odd_length(call, odd) {
         return 2;
     }
     0
+}
+
+// Whether a call tests the passing times.
+fn tests_passing(call: u64) -> bool {
+    (call != MOVE_OVER) & (call != IMAGE_CHECK)
 }
 
 // Refusal 5 of work out.
@@ -224,20 +245,20 @@ fn image_refusal(ask: Ask) -> u64 {
 }
 
 // Refusal 10 of the calls that write.
-fn write_refusal(ask: Ask, stops: u64, cost: [u32; CELLS]) -> u64 {
+fn write_refusal(ask: Ask, stops: u64, cost: [u32; CELLS], passing: [u32; STOPS]) -> u64 {
     let call = ask.call;
     let bytes = ask.bytes;
-    let output = written(call, stops, cost, bytes);
+    let output = written(call, stops, cost, passing, bytes);
     if ask.length < output.length { 10 } else { 0 }
 }
 
 // Refusals 4 and 10 of a route list, which may lead from a stop to itself.
-fn routes_refusal(ask: Ask, stops: u64, cost: [u32; CELLS]) -> u64 {
+fn routes_refusal(ask: Ask, stops: u64, cost: [u32; CELLS], passing: [u32; STOPS]) -> u64 {
     let call = ask.call;
     if bad_stop(call) {
         return 4;
     }
-    write_refusal(ask, stops, cost)
+    write_refusal(ask, stops, cost, passing)
 }
 
 // Refusal 12 of a list of edits.
@@ -246,27 +267,41 @@ fn list_refusal(ask: Ask) -> u64 {
 }
 
 // Refusals 4 to 8, 10 and 12, of the calls that test the tables; a list's edits are judged in their turn.
-fn held_refusal(ask: Ask, stops: u64, cost: [u32; CELLS]) -> u64 {
+fn held_refusal(ask: Ask, stops: u64, cost: [u32; CELLS], passing: [u32; STOPS]) -> u64 {
     let call = ask.call;
     let number = call.number;
     match number {
         AUDIT | MOVE_OVER => 0,
         EDIT_LIST => list_refusal(ask),
-        IMAGE_WRITE => write_refusal(ask, stops, cost),
-        LIST_ROUTES => routes_refusal(ask, stops, cost),
+        IMAGE_WRITE => write_refusal(ask, stops, cost, passing),
+        LIST_ROUTES => routes_refusal(ask, stops, cost, passing),
         _ => edit_refusal(call, at(&cost, place(stops, call.u, call.v))),
     }
 }
 
-// Refusals 1 to 10 and 12, by rising number; `wrong` says that the tables are not those of their hall, for the
-// moving call by the old numbers.
-fn refusal(ask: Ask, stops: u64, cost: [u32; CELLS], wrong: bool) -> u64 {
+// Refusals 1, 2 and 13.
+fn door_refusal(ask: Ask, stops: u64, bad: bool) -> u64 {
     let call = ask.call;
     let size = size_refusal(call, ask.odd, stops);
     if size != 0 {
         return size;
     }
-    let number = call.number;
+    if bad & tests_passing(call.number) {
+        return 13;
+    }
+    0
+}
+
+// Refusals 1 to 10, 12 and 13, by rising number but for 13, which follows 2; `bad` says that a passing time is too large, and
+// `wrong` that the tables are not those of their hall, for the moving call by the old numbers.
+fn refusal(ask: Ask, stops: u64, book: Book, bad: bool, wrong: bool) -> u64 {
+    let door = door_refusal(ask, stops, bad);
+    if door != 0 {
+        return door;
+    }
+    let cost = book.cost;
+    let passing = book.passing;
+    let number = ask.call.number;
     match number {
         EMPTY_HALL => 0,
         WORK_OUT => work_refusal(ask, stops),
@@ -274,7 +309,7 @@ fn refusal(ask: Ask, stops: u64, cost: [u32; CELLS], wrong: bool) -> u64 {
         _ => if wrong {
             3
         } else {
-            held_refusal(ask, stops, cost)
+            held_refusal(ask, stops, cost, passing)
         },
     }
 }
@@ -311,6 +346,15 @@ fn costs_after(ask: Ask, stops: u64, cost: [u32; CELLS]) -> [u32; CELLS] {
     }
 }
 
+// The passing times that it leaves there.
+fn passing_after(ask: Ask, passing: [u32; STOPS]) -> [u32; STOPS] {
+    if brings(ask.call.number) {
+        let brought = ask.passing;
+        return brought;
+    }
+    passing
+}
+
 fn refused(refusal: u64, ask: Ask, book: Book) -> Verdict {
     let bytes = ask.bytes;
     Verdict {
@@ -325,7 +369,8 @@ fn wrote(ask: Ask, stops: u64, book: Book) -> Verdict {
     let call = ask.call;
     let buffer = ask.bytes;
     let cost = book.cost;
-    let output = written(call, stops, cost, buffer);
+    let passing = book.passing;
+    let output = written(call, stops, cost, passing, buffer);
     let bytes = output.bytes;
     let mut answer = of_number(0);
     answer.length = output.length as u64;
@@ -337,10 +382,16 @@ fn wrote(ask: Ask, stops: u64, book: Book) -> Verdict {
 }
 
 // The sources that an accepted edit touches.
-fn touched(ask: Ask, stops: u64, before: [u32; CELLS], after: [u32; CELLS]) -> u64 {
+fn touched(
+    ask: Ask,
+    stops: u64,
+    before: [u32; CELLS],
+    after: [u32; CELLS],
+    passing: [u32; STOPS],
+) -> u64 {
     let call = ask.call;
     if is_edit(call.number) {
-        lister::touched(&before, &after, stops, call.u, call.v)
+        lister::touched(&before, &after, &passing, stops, call.u, call.v)
     } else {
         0
     }
@@ -356,15 +407,17 @@ fn cost_before(ask: Ask, stops: u64, before: [u32; CELLS]) -> u64 {
     }
 }
 
-// A call that leaves other links, and fails none of the tests 1 to 10.
+// A call that leaves other links, and fails none of the tests but 11.
 fn changed(ask: Ask, stops: u64, book: Book) -> Verdict {
     let before = book.cost;
     let after = costs_after(ask, stops, before);
-    let next = book_of(stops, after);
+    let present = book.passing;
+    let passing = passing_after(ask, present);
+    let next = book_of(stops, after, passing);
     if crowded(stops, &next.ways, WAYS) {
         return refused(11, ask, book);
     }
-    let set = touched(ask, stops, before, after);
+    let set = touched(ask, stops, before, after, passing);
     let bytes = ask.bytes;
     let mut answer = of_number(0);
     answer.touched = set;
@@ -377,7 +430,7 @@ fn changed(ask: Ask, stops: u64, book: Book) -> Verdict {
     }
 }
 
-// What an edit must answer and leave that fails none of the tests 1 to 3.
+// What an edit must answer and leave that fails none of the tests 1, 2, 13 and 3.
 pub fn edited(ask: Ask, stops: u64, book: Book) -> Verdict {
     let cost = book.cost;
     let call = ask.call;
@@ -397,9 +450,8 @@ fn moved(ask: Ask, stops: u64, book: Book) -> Verdict {
 }
 
 // What the call must answer and leave.
-pub fn expect(ask: Ask, stops: u64, book: Book, wrong: bool) -> Verdict {
-    let cost = book.cost;
-    let early = refusal(ask, stops, cost, wrong);
+pub fn expect(ask: Ask, stops: u64, book: Book, bad: bool, wrong: bool) -> Verdict {
+    let early = refusal(ask, stops, book, bad, wrong);
     if early != 0 {
         return refused(early, ask, book);
     }

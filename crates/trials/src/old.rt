@@ -2,7 +2,8 @@
 use super::choose::brought;
 use super::model::Book;
 use super::model::old_book_of;
-use super::outcome::put_costs;
+use super::outcome::with_costs;
+use super::outcome::with_passing;
 use super::places::CELLS;
 use calls::entries::at_long;
 use calls::entries::put;
@@ -38,18 +39,16 @@ fn of_book(n: u64, book: Book, t: Tables) -> Tables {
     narrowed(&book.ways, k, &mut ways);
     let mut time = t.time;
     narrowed(&book.time, k, &mut time);
-    let mut cost = t.cost;
-    put_costs(&book.cost, k, &mut cost);
-    Tables {
-        cost,
-        time,
-        ways,
-        share,
-        score,
-    }
+    let held = with_passing(&book.passing, n, t);
+    let mut next = with_costs(&book.cost, n, held);
+    next.time = time;
+    next.ways = ways;
+    next.share = share;
+    next.score = score;
+    next
 }
 
-// The tables t, with the old tables of these costs in front.
+// The tables t, with the old tables of these costs, and passing times of 0, in front.
 pub fn of_costs(n: u64, cost: [u32; CELLS], t: Tables) -> Tables {
     of_book(n, old_book_of(n, cost), t)
 }

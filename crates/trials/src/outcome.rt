@@ -1,26 +1,29 @@
 // The calls under trial.
+use super::passing::brings;
 use super::places::BYTES;
 use super::places::CELLS;
+use super::places::STOPS;
 use calls::answer::Answer;
 use calls::call::Call;
 use calls::call::WORK_OUT;
 use calls::entries::at;
 use calls::entries::put;
 use calls::list::List;
-use calls::tables;
 use calls::tables::Tables;
 use calls::tables::cells;
+use calls::tables::stops;
 use make_call::Done;
 use make_call::make;
 ghost use Prim.Native.Nat.{_≤_};
 
-// A call, with the table that it lends at an odd length, the list of edits, the cost table of a work out, and the image or
-// the buffer with its length.
+// A call, with the table that it lends at an odd length, the list of edits, the cost table of a work out, the passing times that
+// the call brings, and the image or the buffer with its length.
 pub struct Ask {
     pub call: Call,
     pub odd: u64,
     pub list: List,
     pub cost: [u32; CELLS],
+    pub passing: [u32; STOPS],
     pub bytes: [u8; BYTES],
     pub length: usize,
 }
@@ -54,49 +57,70 @@ fn made(
     make(call, list, stops, odd, &image[0..k], &mut buffer[0..l], t)
 }
 
-// Takes the first costs over from another table.
-pub fn put_costs(from: &[u32; CELLS], count: usize, cost: &mut [u32; tables::CELLS]) {
+// Takes the first entries over from another table.
+pub fn put_entries(from: &[u32], count: usize, table: &mut [u32]) {
     for i in 0..count {
-        put(cost, i, at(from, i));
+        put(table, i, at(from, i));
     }
 }
 
 // The tables with the costs of a hall of so many stops from another table.
-fn with_costs(from: &[u32; CELLS], stops: u64, t: Tables) -> Tables {
+pub fn with_costs(from: &[u32; CELLS], stops: u64, t: Tables) -> Tables {
     let mut cost = t.cost;
-    put_costs(from, cells(stops), &mut cost);
+    put_entries(from, cells(stops), &mut cost);
     let mut next = t;
     next.cost = cost;
+    next
+}
+
+// The tables with the passing times of a hall of so many stops from another table.
+pub fn with_passing(from: &[u32; STOPS], count: u64, t: Tables) -> Tables {
+    let mut passing = t.passing;
+    put_entries(from, stops(count), &mut passing);
+    let mut next = t;
+    next.passing = passing;
     next
 }
 
 // The costs of a hall's tables.
 pub fn costs(t: Tables) -> [u32; CELLS] {
     let mut cost = [0u32; CELLS];
-    for i in 0..CELLS {
-        cost[i] = t.cost[i];
-    }
+    put_entries(&t.cost, CELLS, &mut cost);
     cost
 }
 
-// The tables that a call is made on: a work out's cost table is the one that it brings.
-fn brought(ask: Ask, stops: u64, t: Tables) -> Tables {
-    if ask.call.number != WORK_OUT {
-        return t;
-    }
-    with_costs(&ask.cost, stops, t)
+// Their passing times.
+pub fn passing_times(t: Tables) -> [u32; STOPS] {
+    let mut passing = [0u32; STOPS];
+    put_entries(&t.passing, STOPS, &mut passing);
+    passing
 }
 
-// The tables after a call: those of a refused work out have the hall's costs again.
-fn left(ask: Ask, refusal: u64, former: Tables, tables: Tables) -> Tables {
-    if ask.call.number != WORK_OUT {
-        return tables;
+// The tables that a call is made on: the passing times, and a work out's cost table, are those that it brings.
+fn brought(ask: Ask, stops: u64, t: Tables) -> Tables {
+    let number = ask.call.number;
+    if !brings(number) {
+        return t;
     }
+    let set = with_passing(&ask.passing, stops, t);
+    if number != WORK_OUT {
+        return set;
+    }
+    with_costs(&ask.cost, stops, set)
+}
+
+// The tables after a call: if it is refused, what it brought is set back.
+fn left(ask: Ask, refusal: u64, former: Tables, tables: Tables) -> Tables {
     if refusal == 0 {
         return tables;
     }
-    let cost = former.cost;
+    let passing = former.passing;
     let mut next = tables;
+    next.passing = passing;
+    if ask.call.number != WORK_OUT {
+        return next;
+    }
+    let cost = former.cost;
     next.cost = cost;
     next
 }

@@ -3,22 +3,36 @@ use super::image;
 use super::image::Image;
 use super::places::BYTES;
 use super::places::CELLS;
+use super::places::STOPS;
 use super::places::byte;
 use calls::call::Call;
 use calls::call::LIST_ROUTES;
 use std::num::wrapping_add_usize;
 
 // The list of the quickest routes from s to t, in front of the bytes that a buffer has.
-fn routes(n: u64, s: u64, t: u64, cost: [u32; CELLS], buffer: [u8; BYTES]) -> Image {
+fn routes(
+    n: u64,
+    s: u64,
+    t: u64,
+    cost: [u32; CELLS],
+    passing: [u32; STOPS],
+    buffer: [u8; BYTES],
+) -> Image {
     let mut bytes = buffer;
-    let length = lister::routes(&cost, n, s, t, &mut bytes);
+    let length = lister::routes(&cost, &passing, n, s, t, &mut bytes);
     Image { bytes, length }
 }
 
 // What a call writes in a hall of so many stops, in front of the bytes that a buffer has.
-pub fn written(call: Call, stops: u64, cost: [u32; CELLS], buffer: [u8; BYTES]) -> Image {
+pub fn written(
+    call: Call,
+    stops: u64,
+    cost: [u32; CELLS],
+    passing: [u32; STOPS],
+    buffer: [u8; BYTES],
+) -> Image {
     if call.number == LIST_ROUTES {
-        return routes(stops, call.u, call.v, cost, buffer);
+        return routes(stops, call.u, call.v, cost, passing, buffer);
     }
     image::written(stops, cost, buffer)
 }

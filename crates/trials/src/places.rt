@@ -1,8 +1,8 @@
-// Costs of a hall of at most seven stops, and bytes of an image.
+// Costs and passing times of a hall of at most seven stops, and bytes of an image.
 use calls::entries::put;
 ghost use Prim.Native.Nat.{_≤_};
 
-// The room of a cost table, of the scores, and of an image.
+// The room of a cost table, of the scores and the passing times, and of an image.
 pub const CELLS: usize = 49;
 
 pub const STOPS: usize = 7;

@@ -18,8 +18,8 @@ use calls::call::WORK_OUT;
 use std::num::wrapping_add_u64;
 use std::num::wrapping_add_usize;
 
-// The refusals 0 to 12 of each call, and behind them the other counts.
-const REFUSALS: usize = 13;
+// The refusals 0 to 13 of each call, and behind them the other counts.
+const REFUSALS: usize = 14;
 
 pub const SEQUENCES: usize = REFUSALS * CALLS;
 
@@ -86,7 +86,28 @@ const LONGER: usize = UNEVEN + 2;
 
 const ONE_SHORT: usize = UNEVEN + 3;
 
-pub const ROOM: usize = UNEVEN + 4;
+// Accepted calls that bring passing times above 0, and the times in their tables that are others without these.
+pub const PASSED_HALLS: usize = UNEVEN + 4;
+
+pub const PASSED_TIMES: usize = UNEVEN + 5;
+
+// Accepted calls that leave a pair of several ways in a hall with passing times above 0, accepted moving calls in such a hall, and
+// those refused with 3 though all shares are 0.
+pub const PASSED_TIES: usize = UNEVEN + 6;
+
+pub const PASSED_MOVES: usize = UNEVEN + 7;
+
+pub const PASSED_KEPT: usize = UNEVEN + 8;
+
+// Calls that are refused with 11 in such a hall, or would leave one.
+pub const PASSED_CROWDED: usize = UNEVEN + 9;
+
+// Refusals 2 where a passing time is too large too, and 13 where the tables are not right either.
+pub const ODD_AND_BAD: usize = UNEVEN + 10;
+
+pub const BAD_AND_WRONG: usize = UNEVEN + 11;
+
+pub const ROOM: usize = UNEVEN + 12;
 
 pub fn add(tally: &mut [u64; ROOM], i: usize, x: u64) {
     if i < ROOM {
@@ -236,7 +257,7 @@ fn counts(name: &[u8], tally: &[u64; ROOM], from: usize, to: usize) {
     io::write_all(1, b"\n");
 }
 
-// Writes a line of the refusals 0 to 12 of a call.
+// Writes a line of the refusals 0 to 13 of a call.
 fn refusals_of(name: &[u8], tally: &[u64; ROOM], call: u64) {
     let start = place(call, 0);
     counts(name, tally, start, wrapping_add_usize(start, REFUSALS));
@@ -333,6 +354,42 @@ fn routes(tally: &[u64; ROOM]) {
     );
 }
 
+// Writes what passing times did.
+fn passing(tally: &[u64; ROOM]) {
+    line(
+        b"halls with passing times above 0",
+        count(tally, PASSED_HALLS),
+    );
+    line(
+        b"times that passing times changed in them",
+        count(tally, PASSED_TIMES),
+    );
+    line(
+        b"accepted with ties and passing times above 0",
+        count(tally, PASSED_TIES),
+    );
+    line(
+        b"moving calls accepted with passing times above 0",
+        count(tally, PASSED_MOVES),
+    );
+    line(
+        b"moving calls refused with 3 by passing times alone",
+        count(tally, PASSED_KEPT),
+    );
+    line(
+        b"refused with 11 and passing times above 0",
+        count(tally, PASSED_CROWDED),
+    );
+    line(
+        b"refused with 2 where 13 would follow",
+        count(tally, ODD_AND_BAD),
+    );
+    line(
+        b"refused with 13 where 3 would follow",
+        count(tally, BAD_AND_WRONG),
+    );
+}
+
 pub fn write(tally: &[u64; ROOM]) {
     line(b"sequences", count(tally, SEQUENCES));
     line(b"sequences from moved halls", count(tally, MOVED));
@@ -363,6 +420,7 @@ pub fn write(tally: &[u64; ROOM]) {
     lists(tally);
     moves(tally);
     routes(tally);
+    passing(tally);
     line(b"differences", count(tally, DIFFERENCES));
     line(b"first in answer", count(tally, FIRST));
 }

@@ -1,4 +1,4 @@
--- hallscore, whole (document 01, with requests 1 and 3 of document 02): the listing that it prints, for any text. A text is the list of
+-- hallscore, whole (document 01, with requests 1, 3 and 7 of document 02): the listing that it prints, for any text. A text is the list of
 -- its bytes. Assumes nothing.
 use Prim.Native.Nat.{ℕ, zero, suc, _+_, _*_, _-_, _/_, _%_}
 use Prim.Native.Char.{code}
@@ -8,9 +8,9 @@ use mathlib.Core.List.{List, [], _∷_, _++_}
 use lib.Dec.{eqb, ltb, leb}
 use lib.ListN.{length}
 use Rattle.routes.specs.Route.{joinTo, same, score}
-use Rattle.book.specs.Hall.{mostStops, scale, upTo, entry}
+use Rattle.book.specs.Hall.{mostStops, scale, upTo, costsIn, noPassing, noLinks}
 use Rattle.book.specs.Call.{edit, number, Answer}
-use Rattle.book.specs.Book.{Book, noLinks, bookAfter, bookAnswer}
+use Rattle.book.specs.Book.{Book, bookAfter, bookAnswer}
 use Rattle.book.specs.declared.Kind.{Kind}
 use Rattle.book.specs.declared.Kind.the-variants.{Insert, Cheapen, Raise, Delete}
 use Rattle.words.specs.declared.Line.{Line}
@@ -141,9 +141,13 @@ unfoldable pub next : Book → Line → Book
 next b Unread = b
 next b (Read e) = bookAfter (record { n = b .stops; ask = edit e }) b
 
+-- the book at first: no links, and every passing time 0
+abbrev pub emptyBook : ℕ → Book
+emptyBook n = record { stops = n; layout = noLinks n (noPassing n) }
+
 -- the lines from line i on, and then the scores
 unfoldable pub report : ℕ → Book → List (List ℕ) → List ℕ
-report i b [] = joinTo (b .stops) (λ v. stopLine v (score (entry (b .stops) (b .links)) (b .stops) scale v))
+report i b [] = joinTo (b .stops) (λ v. stopLine v (score (costsIn (b .stops) (b .layout)) (b .stops) scale v))
 report i b (line ∷ rest) = said i b (lineOf (words line)) ++ report (i + 1) (next b (lineOf (words line))) rest
 
 -- the whole: the first line is the hall
@@ -151,7 +155,7 @@ unfoldable pub ofLines : List (List ℕ) → List ℕ
 ofLines [] = bytes "no hall\n"
 ofLines (line ∷ rest) =
     let n : ℕ = hallOf (words line) in
-    cond (upTo mostStops n) (hallLine n ++ report 2 (noLinks n) rest) (bytes "no hall\n")
+    cond (upTo mostStops n) (hallLine n ++ report 2 (emptyBook n) rest) (bytes "no hall\n")
 
 unfoldable pub listing : List ℕ → List ℕ
 listing input = cond (ltb longest (length input)) (bytes "too long\n") (ofLines (lines input))

@@ -13,12 +13,12 @@ use Rattle.flat_list.proofs.edit_flat.Statement.{statement}
 use Rattle.flat_list.proofs.edit_flat.Tie as tie
 
 abbrev Inv-loop : tie.InvT-loop
-Inv-loop n list cost₀ time₀ ways₀ share₀ score₀ length₀ count course₀ i₀ cost time ways share score course i =
-    Going n (editsOf list) (tables cost₀ time₀ ways₀ share₀ score₀) i course (tables cost time ways share score) ×
+Inv-loop n list cost₀ passing time₀ ways₀ share₀ score₀ length₀ count course₀ i₀ cost time ways share score course i =
+    Going n (editsOf list) (tables cost₀ passing time₀ ways₀ share₀ score₀) i course (tables cost passing time ways share score) ×
     (length cost ≡ length cost₀) × (length time ≡ length time₀) × (length ways ≡ length ways₀) × (length share ≡ length share₀) × (length score ≡ length score₀)
 
 abbrev μ-loop : tie.MeasureT-loop
-μ-loop n list cost₀ time₀ ways₀ share₀ score₀ length₀ count course₀ i₀ cost time ways share score course i = count - i
+μ-loop n list cost₀ passing time₀ ways₀ share₀ score₀ length₀ count course₀ i₀ cost time ways share score course i = count - i
 
 loop-holds : tie.Need-loop-holds Inv-loop μ-loop
 loop-holds c =
@@ -59,10 +59,10 @@ loop-again c =
     let v = loop .inv in (
       flat-on _ (start .args .list .now) _ _ _ _ _ (turns .ensures) (v .0) (test .taken) _ (edit-at .ensures) _ _ (turn .ensures),
       k .0 ∙ v .1,
-      k .1 .0 ∙ v .2,
-      k .1 .1 .0 ∙ v .3,
-      k .1 .1 .1 .0 ∙ v .4,
-      k .1 .1 .1 .1 .0 ∙ v .5,
+      k .1 .1 .0 ∙ v .2,
+      k .1 .1 .1 .0 ∙ v .3,
+      k .1 .1 .1 .1 .0 ∙ v .4,
+      k .1 .1 .1 .1 .1 .0 ∙ v .5,
     )
 
 finish-requires : tie.Need-finish-requires Inv-loop μ-loop
@@ -92,28 +92,28 @@ same-length-2 c =
     let begin = (let c : tie.After-finish Inv-loop μ-loop = search in let c : tie.At-loop Inv-loop μ-loop = search in let p : tie.After-begin Inv-loop μ-loop = search in p .begin) in
     let loop = (let c : tie.After-finish Inv-loop μ-loop = search in let p : tie.At-loop Inv-loop μ-loop = search in p .loop) in
     let finish = (let p : tie.After-finish Inv-loop μ-loop = search in p .finish) in
-    finish .kept .1 .1 .1 .0 ∙ loop .inv .2 ∙ begin .kept .1 .1 .1 .0
+    finish .kept .1 .1 .1 .1 .0 ∙ loop .inv .2 ∙ begin .kept .1 .1 .1 .1 .0
 
 same-length-3 : tie.Need-same-length-3 Inv-loop μ-loop
 same-length-3 c =
     let begin = (let c : tie.After-finish Inv-loop μ-loop = search in let c : tie.At-loop Inv-loop μ-loop = search in let p : tie.After-begin Inv-loop μ-loop = search in p .begin) in
     let loop = (let c : tie.After-finish Inv-loop μ-loop = search in let p : tie.At-loop Inv-loop μ-loop = search in p .loop) in
     let finish = (let p : tie.After-finish Inv-loop μ-loop = search in p .finish) in
-    finish .kept .1 .1 .1 .1 .0 ∙ loop .inv .3 ∙ begin .kept .1 .1 .1 .1 .0
+    finish .kept .1 .1 .1 .1 .1 .0 ∙ loop .inv .3 ∙ begin .kept .1 .1 .1 .1 .1 .0
 
 same-length-4 : tie.Need-same-length-4 Inv-loop μ-loop
 same-length-4 c =
     let begin = (let c : tie.After-finish Inv-loop μ-loop = search in let c : tie.At-loop Inv-loop μ-loop = search in let p : tie.After-begin Inv-loop μ-loop = search in p .begin) in
     let loop = (let c : tie.After-finish Inv-loop μ-loop = search in let p : tie.At-loop Inv-loop μ-loop = search in p .loop) in
     let finish = (let p : tie.After-finish Inv-loop μ-loop = search in p .finish) in
-    finish .kept .1 .1 .1 .1 .1 .0 ∙ loop .inv .4 ∙ begin .kept .1 .1 .1 .1 .1 .0
+    finish .kept .1 .1 .1 .1 .1 .1 .0 ∙ loop .inv .4 ∙ begin .kept .1 .1 .1 .1 .1 .1 .0
 
 same-length-5 : tie.Need-same-length-5 Inv-loop μ-loop
 same-length-5 c =
     let begin = (let c : tie.After-finish Inv-loop μ-loop = search in let c : tie.At-loop Inv-loop μ-loop = search in let p : tie.After-begin Inv-loop μ-loop = search in p .begin) in
     let loop = (let c : tie.After-finish Inv-loop μ-loop = search in let p : tie.At-loop Inv-loop μ-loop = search in p .loop) in
     let finish = (let p : tie.After-finish Inv-loop μ-loop = search in p .finish) in
-    finish .kept .1 .1 .1 .1 .1 .1 .0 ∙ loop .inv .5 ∙ begin .kept .1 .1 .1 .1 .1 .1 .0
+    finish .kept .1 .1 .1 .1 .1 .1 .1 .0 ∙ loop .inv .5 ∙ begin .kept .1 .1 .1 .1 .1 .1 .1 .0
 
 pub edit-flat-spec : {M : Type 1} → statement M
 edit-flat-spec =

@@ -7,7 +7,7 @@ use Rattle.host.proofs.Handing.{handed-list}
 use Rattle.host.proofs.hall_edit_numbers.Statement.{statement}
 use Rattle.host.proofs.hall_edit_numbers.Tie as tie
 
-cast-place : tie.Need-cast-t12
+cast-place : tie.Need-cast-t13
 cast-place c =
     let other-kind : tie.After-other-kind = search in let start : tie.Start = search in
     omega (arith, other-kind .other-kind .ensures, other-few (start .args .list .now))

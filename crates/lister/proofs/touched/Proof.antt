@@ -8,10 +8,10 @@ use Rattle.lister.proofs.touched.Statement.{statement}
 use Rattle.lister.proofs.touched.Tie as tie
 
 abbrev Inv-loop : tie.InvT-loop
-Inv-loop before after n u v n' tally₀ set₀ s₀ tally set s = (s ≤ n') × (set < 2 ^ n')
+Inv-loop before after passing n u v n' tally₀ set₀ s₀ tally set s = (s ≤ n') × (set < 2 ^ n')
 
 abbrev μ-loop : tie.MeasureT-loop
-μ-loop before after n u v n' tally₀ set₀ s₀ tally set s = n' - s
+μ-loop before after passing n u v n' tally₀ set₀ s₀ tally set s = n' - s
 
 loop-again : tie.Need-loop-again Inv-loop μ-loop
 loop-again c =

@@ -5,10 +5,10 @@ use Rattle.lister.proofs.touches.Statement.{statement}
 use Rattle.lister.proofs.touches.Tie as tie
 
 abbrev Inv-loop : tie.InvT-loop
-Inv-loop cost n s u v tally t₀ t = t ≤ n
+Inv-loop cost passing n s u v tally t₀ t = t ≤ n
 
 abbrev μ-loop : tie.MeasureT-loop
-μ-loop cost n s u v tally t₀ t = n - t
+μ-loop cost passing n s u v tally t₀ t = n - t
 
 pub touches-spec : {M : Type 1} → statement M
 touches-spec =

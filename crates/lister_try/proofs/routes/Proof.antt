@@ -5,10 +5,10 @@ use Rattle.lister_try.proofs.routes.Statement.{statement}
 use Rattle.lister_try.proofs.routes.Tie as tie
 
 abbrev Inv-loop : tie.InvT-loop
-Inv-loop cost n s t buffer length i₀ t11 t12 i = Unit {0}
+Inv-loop cost passing n s t buffer length i₀ t11 t12 i = Unit {0}
 
 abbrev μ-loop : tie.MeasureT-loop
-μ-loop cost n s t buffer length i₀ t11 t12 i = length - i
+μ-loop cost passing n s t buffer length i₀ t11 t12 i = length - i
 
 pub routes-spec : {M : Type 1} → statement M
 routes-spec =

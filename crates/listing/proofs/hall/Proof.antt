@@ -1,11 +1,12 @@
 -- `hall` lends the front of its arrays, n × n entries and n, and prints behind the first line.
 use Prim.Native.Nat.{_*_, _≤_}
-use mathlib.Core.Path.{sym}
+use mathlib.Core.Path.{_≡_, sym}
 use native.Mathlib.Nat.{le-trans, mul-le-mul-left}
 use native.Mathlib.Omega.{arith}
-use lib.ListN.{length}
+use lib.ListN.{length, take, replicate}
 use lib.Seq.{length-take-le}
-use Rattle.book.specs.Hall.{mostStops}
+use Rattle.routes.proofs.Lists.{take-replicate}
+use Rattle.book.specs.Hall.{mostStops, noPassing}
 use Rattle.book.proofs.Sizes.{stops}
 use Rattle.words.specs.Text.{hallLine}
 use Rattle.print.specs.Promise.{hallBytes}
@@ -22,6 +23,10 @@ few c = stops (c .args .n) (c .pre .0) .1
 square : (c : tie.Start) → c .args .n * c .args .n ≤ 4096
 square c = le-trans (mul-le-mul-left (c .args .n) (few c)) (omega (arith, few c))
 
+-- its passing times are 0
+none : (c : tie.Start) → take (c .args .n) (replicate 64 0) ≡ noPassing (c .args .n)
+none c = take-replicate (c .args .n) 64 0 (few c)
+
 -- the first line has its room
 short : (c : tie.Start) → length (hallLine (c .args .n)) ≤ hallBytes
 short c = head-short (c .args .n) (omega (arith, few c))
@@ -33,7 +38,10 @@ start-requires : tie.Need-start-requires
 start-requires c κs =
     let hall-line : tie.After-hall-line = search in let start : tie.Start = search in
     let p = start .pre .1 in (
-      lengths-inside (start .args .n) _ (start .pre .0) (length-take-le _ _ (square start)) (length-take-le _ _ (square start)) (length-take-le _ _ (square start)) (length-take-le _ _ (square start)) (length-take-le _ _ (few start)),
+      (
+        lengths-inside (start .args .n) _ (start .pre .0) (length-take-le _ _ (square start)) (none start) (length-take-le _ _ (square start)) (length-take-le _ _ (square start)) (length-take-le _ _ (square start)) (length-take-le _ _ (few start)),
+        none start,
+      ),
       record {
         short = p .short;
         inside = p .inside;
@@ -48,6 +56,7 @@ hall-spec =
     (tie.spec
     (λ c. let start : tie.Start = search in omega (arith, square start)) hall-line-requires
     (λ c. square (search)) (λ c. sym (length-take-le _ _ (square (search))))
+    (λ c. few (search)) (λ c. sym (length-take-le _ _ (few (search))))
     (λ c. square (search)) (λ c. sym (length-take-le _ _ (square (search))))
     (λ c. square (search)) (λ c. sym (length-take-le _ _ (square (search))))
     (λ c. square (search)) (λ c. sym (length-take-le _ _ (square (search))))

@@ -17,7 +17,7 @@ rework-requires c κs =
     let h = entry .pre .1 .0 in
     rw (dearer .dearer .ensures, start .start .ensures .place) (
       entry .pre .0,
-      ((h .most, square′ h, valid′ h, h .from, h .to), (lengths (changes h), (comes h, below h _ (entry .pre .1 .1)))),
+      ((h .most, square′ h, valid′ h, h .from, h .to), ((h .long, h .passable), (lengths (changes h), (comes h, below h _ (entry .pre .1 .1))))),
     )
 
 returns : tie.Need-returns
@@ -46,8 +46,11 @@ rework-requires-2 c κs =
       (
         (h .most, square″ h _, valid″ h _ (omega arith), h .from, h .to),
         (
-          rework .rework .ensures .filled .lengths,
-          (λ e. absurd (true≢false e), below h _ (entry .pre .1 .1)),
+          (h .long, h .passable),
+          (
+            rework .rework .ensures .filled .lengths,
+            (λ e. absurd (true≢false e), below h _ (entry .pre .1 .1)),
+          ),
         ),
       ),
     )

@@ -3,7 +3,6 @@ use Prim.Native.Nat.{_<_}
 use mathlib.Core.Path.{_∙_}
 use native.Mathlib.Omega.{arith}
 use lib.ListN.{length, length-set}
-use borrow.Author.Needs.{needs}
 use Rattle.route_lists.proofs.Listing.{counted, number-fits, list-size, ready, walk-room, list-stored}
 use Rattle.route_lists.proofs.put_list.Statement.{statement}
 use Rattle.route_lists.proofs.put_list.Tie as tie
@@ -31,7 +30,7 @@ put-routes-requires c κs =
 same-length : tie.Need-same-length
 same-length c =
     let start : tie.Start = search in let read : tie.After-read-entry = search in let put : tie.After-put-routes = search in
-    put .put-routes .kept .1 .1 .1 .1 .1 .1 .0 ∙ length-set (start .args .buffer .now) 0 (read .read-entry .result)
+    put .put-routes .kept .1 .1 .1 .1 .1 .1 .1 .0 ∙ length-set (start .args .buffer .now) 0 (read .read-entry .result)
 
 returns : tie.Need-returns
 returns c =

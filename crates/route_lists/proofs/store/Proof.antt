@@ -5,6 +5,7 @@ use native.Mathlib.Omega.{arith}
 use lib.ListN.{length}
 use borrow.Author.Needs.{needs}
 use Rattle.book.specs.Hall.{routeList}
+use Rattle.book.specs.Contract.{thisLayout}
 use Rattle.book.proofs.Buffers.{stored-short, stored-whole}
 use Rattle.route_lists.proofs.Listing.{counted, list-size, list-short, front-stored}
 use Rattle.route_lists.proofs.store.Statement.{statement}
@@ -19,7 +20,7 @@ stops-in-all-requires c κs = let start : tie.Start = search in counted (start .
 -- the length that is worked out is that of the list
 size : (c : tie.After-stops-in-all) →
     let start : tie.Start = search in let read : tie.After-read-entry = search in
-    let a = start .args in length (routeList (a .n) (a .cost .now) (a .s) (a .t)) ≡ 1 + read .read-entry .result + c .stops-in-all .result
+    let a = start .args in length (routeList (a .n) (thisLayout (a .cost) (a .passing)) (a .s) (a .t)) ≡ 1 + read .read-entry .result + c .stops-in-all .result
 size c =
     let start : tie.Start = search in let read : tie.After-read-entry = search in
     omega (arith, list-size (start .pre), read .read-entry .ensures, c .stops-in-all .ensures)
@@ -33,7 +34,7 @@ returns : tie.Need-returns
 returns c =
     let start : tie.Start = search in let stops : tie.After-stops-in-all = search in
     let a = start .args in
-    stored-short (routeList (a .n) (a .cost .now) (a .s) (a .t)) _ (size stops) (a .buffer .now) (c .if1 .taken)
+    stored-short (routeList (a .n) (thisLayout (a .cost) (a .passing)) (a .s) (a .t)) _ (size stops) (a .buffer .now) (c .if1 .taken)
 
 put-list-requires : tie.Need-put-list-requires
 put-list-requires c κs =
@@ -45,7 +46,7 @@ returns-2 c =
     let start : tie.Start = search in let stops : tie.After-stops-in-all = search in let if1 : tie.Else1 = search in
     let put : tie.After-put-list = search in
     let a = start .args in
-    let list = routeList (a .n) (a .cost .now) (a .s) (a .t) in
+    let list = routeList (a .n) (thisLayout (a .cost) (a .passing)) (a .s) (a .t) in
     let k = size stops in
     let front = front-stored list (a .buffer .now) (omega (arith, k, if1 .if1 .left)) in
     stored-whole list _ k (a .buffer .now) (omega (arith, if1 .if1 .left)) (put .put-list .ensures ∙ rw k at front)

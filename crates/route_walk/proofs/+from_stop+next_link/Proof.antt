@@ -21,24 +21,24 @@ use Rattle.route_walk.proofs.put_route.Reads as put-route-reads
 use Rattle.route_walk.proofs.+from_stop+next_link.{statement}
 use Rattle.route_walk.proofs.+from_stop+next_link.Tie.{close}
 
-abbrev μ-from-stop : Measures 4 from-stop-kinds.ps ℕ
+abbrev μ-from-stop : Measures 5 from-stop-kinds.ps ℕ
 μ-from-stop κs a = fromLeft (a .0) (a .1 .1 .1 .0)
 
-abbrev μ-next-link : Measures 4 next-link-kinds.ps ℕ
+abbrev μ-next-link : Measures 5 next-link-kinds.ps ℕ
 μ-next-link κs a = alongLeft (a .0) (a .1 .1 .1 .0) (a .1 .1 .1 .1 .1 .0)
 
 -- what each is given at the measure t, and what a call of it asks below t
-abbrev from-stop-at : ℕ → In 4 from-stop-kinds.ps
-from-stop-at t = and 4 from-stop-kinds.ps (is 4 from-stop-kinds.ps μ-from-stop t) from-stop.Pre
+abbrev from-stop-at : ℕ → In 5 from-stop-kinds.ps
+from-stop-at t = and 5 from-stop-kinds.ps (is 5 from-stop-kinds.ps μ-from-stop t) from-stop.Pre
 
-abbrev from-stop-below : ℕ → In 4 from-stop-kinds.ps
-from-stop-below t = and 4 from-stop-kinds.ps (falls 4 from-stop-kinds.ps _<_ μ-from-stop t) from-stop.Pre
+abbrev from-stop-below : ℕ → In 5 from-stop-kinds.ps
+from-stop-below t = and 5 from-stop-kinds.ps (falls 5 from-stop-kinds.ps _<_ μ-from-stop t) from-stop.Pre
 
-abbrev next-link-at : ℕ → In 4 next-link-kinds.ps
-next-link-at t = and 4 next-link-kinds.ps (is 4 next-link-kinds.ps μ-next-link t) next-link.Pre
+abbrev next-link-at : ℕ → In 5 next-link-kinds.ps
+next-link-at t = and 5 next-link-kinds.ps (is 5 next-link-kinds.ps μ-next-link t) next-link.Pre
 
-abbrev next-link-below : ℕ → In 4 next-link-kinds.ps
-next-link-below t = and 4 next-link-kinds.ps (falls 4 next-link-kinds.ps _<_ μ-next-link t) next-link.Pre
+abbrev next-link-below : ℕ → In 5 next-link-kinds.ps
+next-link-below t = and 5 next-link-kinds.ps (falls 5 next-link-kinds.ps _<_ μ-next-link t) next-link.Pre
 
 -- what each knows of the functions that it calls
 abbrev from-claims : ℕ → from-lts.Claims
@@ -122,7 +122,7 @@ module _ (t : ℕ) where
       let begun : Begun = search in
       let a = begun .args in
       let along : Along = search in
-      along .next-link .kept .1 .1 .1 .1 .1 .1 .1 .1 .0 ∙ length-set (a .path .now) (a .k) (a .u)
+      along .next-link .kept .1 .1 .1 .1 .1 .1 .1 .1 .1 .0 ∙ length-set (a .path .now) (a .k) (a .u)
 
   from-returns-2 : from-lts.Need-returns-2 (from-claims t) (from-stop-at t) from-stop.Post
   from-returns-2 c =
@@ -180,8 +180,8 @@ module _ (t : ℕ) where
       let N = sought .next-stop .ensures in
       let inside : y < a .n = omega (arith, N .most, taken .if1 .left) in
       let (wrote, path) = gone .from-stop .ensures in
-      let after = gone .from-stop .last .1 .1 .1 .1 .1 .1 .1 .0 in
-      let kept = gone .from-stop .kept .1 .1 .1 .1 .1 .1 .1 in
+      let after = gone .from-stop .last .1 .1 .1 .1 .1 .1 .1 .1 .0 in
+      let kept = gone .from-stop .kept .1 .1 .1 .1 .1 .1 .1 .1 in
       let behind = room-behind S N after path (a .at) (gone .from-stop .result) (length (a .buffer .now)) inside (taking .pre .1 .1) (wrote .place) in
       (omega (arith, next-falls (a .n) (a .k) (a .from) y (N .after) inside, taking .pre .0), ((still S after (kept .0), omega arith), omega (arith, behind, kept .1 .1 .0)))
 

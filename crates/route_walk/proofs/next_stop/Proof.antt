@@ -10,16 +10,16 @@ use Rattle.route_walk.proofs.next_stop.Statement.{statement}
 use Rattle.route_walk.proofs.next_stop.Tie as tie
 
 abbrev Inv-loop : tie.InvT-loop
-Inv-loop n s t u from cost time y₀ y = (from ≤ y) × (y ≤ n) × ((i : ℕ) → from ≤ i → i < y → leadsOn n s t cost time u i ≡ false)
+Inv-loop n s t u from cost passing time y₀ y = (from ≤ y) × (y ≤ n) × ((i : ℕ) → from ≤ i → i < y → leadsOn n s t cost passing time u i ≡ false)
 
 abbrev μ-loop : tie.MeasureT-loop
-μ-loop n s t u from cost time y₀ y = n - y
+μ-loop n s t u from cost passing time y₀ y = n - y
 
 loop-holds : tie.Need-loop-holds Inv-loop μ-loop
 loop-holds c =
     let start : tie.Start Inv-loop μ-loop = search in
     let a = start .args in
-    (omega arith, start .pre .2, none-yet (leadsOn (a .n) (a .s) (a .t) (a .cost .now) (a .time .now) (a .u)) (a .from))
+    (omega arith, start .pre .2, none-yet (leadsOn (a .n) (a .s) (a .t) (a .cost .now) (a .passing .now) (a .time .now) (a .u)) (a .from))
 
 returns : tie.Need-returns Inv-loop μ-loop
 returns c =
@@ -35,7 +35,7 @@ loop-again c =
     let (after, most, none) = loop .loop .inv in (
       omega arith,
       omega arith,
-      none-more (leadsOn (a .n) (a .s) (a .t) (a .cost .now) (a .time .now) (a .u)) (a .from) (loop .loop .y) none (sym (leads .leads .ensures) ∙ c .if1 .left),
+      none-more (leadsOn (a .n) (a .s) (a .t) (a .cost .now) (a .passing .now) (a .time .now) (a .u)) (a .from) (loop .loop .y) none (sym (leads .leads .ensures) ∙ c .if1 .left),
     )
 
 returns-2 : tie.Need-returns-2 Inv-loop μ-loop

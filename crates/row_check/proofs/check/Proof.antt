@@ -38,13 +38,13 @@ opened : (c : tie.Else4) → let a = (let start : tie.Start = search in start .a
 opened c =
     let light : tie.After-light = search in let if3 : tie.Else3 = search in let few-in-all : tie.After-few-in-all = search in
     let if2 : tie.Else2 = search in let reached : tie.After-reached = search in let if1 : tie.Else1 = search in
-    let at-source : tie.After-at-source = search in let known : tie.After-shared-slice-known2 = search in
+    let at-source : tie.After-at-source = search in let known : tie.After-shared-slice-known3 = search in
     record {
       source = sym (at-source .at-source .ensures) ∙ not-false _ (if1 .if1 .left);
       reached = sym (reached .reached .ensures) ∙ not-false _ (if2 .if2 .left);
       inAll = sym (few-in-all .few-in-all .ensures) ∙ not-false _ (if3 .if3 .left);
       light = sym (light .light .ensures) ∙ not-false _ (c .if4 .left);
-      bounded = λ t l. omega (arith, known .shared-slice-known2 .given t);
+      bounded = λ t l. omega (arith, known .shared-slice-known3 .given t);
     }
 
 -- the beginning, seen from there
@@ -74,7 +74,7 @@ balanced-requires c κs =
     balanced-pays (start .pre .0) (parts start) (opened if4) (hand-back .hand-back .ensures) (flows .flows .ensures)
 
 add-counted : tie.Need-add-counted
-add-counted c = let start : tie.Start = search in omega (arith, start .pre .0 .few)
+add-counted c = let if4 : tie.Else4 = search in let start = begun if4 in omega (arith, start .pre .0 .few)
 
 counted-requires : tie.Need-counted-requires
 counted-requires c κs =

@@ -19,4 +19,5 @@ pub link-crosses-spec : {M : Type 1} → statement M
 link-crosses-spec =
     tie.close
     (tie.spec
-    (λ c. search (needs, eq-eqb, mark)) (λ c. search needs) returns-2 (λ c. search needs) returns-3)
+    (λ c. search (needs, eq-eqb, mark)) (λ c. search needs) (λ c. search needs) returns-2 (λ c. search needs)
+    (λ c. search needs) returns-3)

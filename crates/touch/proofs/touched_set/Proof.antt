@@ -8,7 +8,7 @@ touched-sources-requires : tie.Need-touched-sources-requires
 touched-sources-requires c κs =
     let entry : tie.Start = search in
     let p = entry .pre in
-    (p .0, p .2, p .3, p .4)
+    (p .0, p .2, p .3, p .4, p .5)
 
 returns : tie.Need-returns
 returns c =

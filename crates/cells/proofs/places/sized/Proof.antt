@@ -1,4 +1,4 @@
--- `places::sized` compares the five lengths.
+-- `places::sized` compares the six lengths.
 use borrow.Author.Needs.{needs}
 use Rattle.book.specs.Hall.{sized}
 use Rattle.cells.proofs.places.sized.Statement.{statement}

@@ -5,7 +5,7 @@ use Rattle.book.proofs.Sizes.{stops, lengths}
 use Rattle.tables.proofs.Measured.{hall-measure}
 use Rattle.tables.proofs.Masked.{job-all}
 use Rattle.tables.proofs.Worked.{worked-shares}
-use Rattle.course.proofs.Rows.{rows-worked, put-filled}
+use Rattle.course.proofs.Rows.{workable-of, rows-worked, put-filled}
 use Rattle.course.proofs.back.put_rows.Statement.{statement}
 use Rattle.course.proofs.back.put_rows.Tie as tie
 
@@ -20,7 +20,7 @@ fill-rows-requires c κs =
     let b = start .pre in
     let l = lengths _ _ (b .lengths) in (
       hall-measure,
-      (job-all _ _ (stops _ (b .size) .1) (l .costs) (b .valid) _ (all-links .all-links .ensures), (record { times = l .times; counts = l .counts; shares = l .shares }, b .below)),
+      (job-all (workable-of b) _ (all-links .all-links .ensures), (record { times = l .times; counts = l .counts; shares = l .shares }, b .below)),
     )
 
 sum-scores-requires : tie.Need-sum-scores-requires
@@ -31,7 +31,7 @@ sum-scores-requires c κs =
     let b = start .pre in
     let l = lengths _ _ (b .lengths) in
     let w = rows-worked _ _ _ b _ (all-links .ensures) _ _ _ _ (fill-rows .ensures) in
-    (worked-shares _ _ _ _ (w .shares) (hall-measure .fine) (stops _ (b .size) .1) (l .costs) (b .valid), omega (arith, l .scores))
+    (worked-shares _ _ _ _ (w .shares) (hall-measure .fine) (workable-of b), omega (arith, l .scores))
 
 returns : tie.Need-returns
 returns c =

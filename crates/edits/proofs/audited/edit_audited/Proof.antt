@@ -16,9 +16,10 @@ permit-requires c κs =
 
 returns : tie.Need-returns
 returns c =
-    let refused : tie.After-refused = search in let if1 : tie.Then1 = search in
-    let passes : tie.After-passes = search in let permit : tie.After-permit = search in let start : tie.Start = search in
-    rw (refused .refused .ensures) (edit-refused _ _ _ (start .pre) _ (permit .permit .ensures) (failed (passes .passes .ensures) (if1 .if1 .taken)))
+    let start : tie.Start = (let c : tie.After-permit = search in search) in
+    let permit = (let p : tie.After-permit = search in p .permit) in let passes = (let p : tie.After-passes = search in p .passes) in
+    let if1 : tie.Then1 = search in let refused : tie.After-refused = search in
+    rw (refused .refused .ensures) (edit-refused _ _ _ (start .pre) _ (permit .ensures) (failed (passes .ensures) (if1 .if1 .taken)))
 
 cost-set-requires : tie.Need-cost-set-requires
 cost-set-requires c κs =
@@ -35,9 +36,12 @@ apply-requires c κs =
 
 returns-2 : tie.Need-returns-2
 returns-2 c =
-    let apply : tie.After-apply = search in let cost-set : tie.After-cost-set = search in let if1 : tie.Else1 = search in
-    let passes : tie.After-passes = search in let permit : tie.After-permit = search in let start : tie.Start = search in
-    let ok = ap accepted (sym (permit .permit .ensures)) ∙ held (passes .passes .ensures) (if1 .if1 .left) in
+    let start : tie.Start = (let c : tie.After-cost-set = search in search) in
+    let permit = (let c : tie.After-cost-set = search in let p : tie.After-permit = search in p .permit) in
+    let passes = (let c : tie.After-cost-set = search in let p : tie.After-passes = search in p .passes) in
+    let if1 = (let c : tie.After-cost-set = search in let p : tie.Else1 = search in p .if1) in
+    let cost-set : tie.After-cost-set = search in let apply : tie.After-apply = search in
+    let ok = ap accepted (sym (permit .ensures)) ∙ held (passes .ensures) (if1 .left) in
     edit-done _ (start .args .e) _ (start .pre) ok (rw (cost-set .cost-set .ensures) at (apply .apply .ensures))
 
 pub edit-audited-spec : {M : Type 1} → statement M

@@ -12,7 +12,7 @@ unfolding rule
 returns c =
     let refused : tie.After-refused = search in let if1 : tie.Then1 = search in
     let passes : tie.After-passes = search in let audit : tie.After-audit = search in
-    rw (refused .refused .ensures) (audit-refused _ _ (λ s. refl) refl _ (audit .audit .ensures) (failed (passes .passes .ensures) (if1 .if1 .taken)))
+    rw (refused .refused .ensures) (audit-refused _ _ (λ s. refl) refl refl _ (audit .audit .ensures) (failed (passes .passes .ensures) (if1 .if1 .taken)))
 
 edit-audited-requires : tie.Need-edit-audited-requires
 edit-audited-requires c κs =

@@ -1,4 +1,4 @@
--- `audit::audit`: tests 1 to 3 by the hall's limit and scale.
+-- `audit::audit`: tests 1, 2, 13 and 3 by the hall's limit and scale.
 use borrow.Author.Needs.{needs}
 use Rattle.tables.proofs.Measured.{hall-measure}
 use Rattle.hall.proofs.Tests.{audit-done}

@@ -9,10 +9,10 @@ use Rattle.hall.proofs.audit.audit_by.Tie as tie
 
 right-requires : tie.Need-right-requires
 right-requires c κs =
-    let start : tie.Start = search in
     let passes : tie.After-passes = search in let door : tie.After-door = search in
+    let start : tie.Start = search in
     let i = door-passed _ _ (door .door .ensures) (held (passes .passes .ensures) (c .if1 .left)) in
-    (start .pre, (stops _ (i .size) .0, stops _ (i .size) .1, i .lengths))
+    (start .pre, ((stops _ (i .size) .0, stops _ (i .size) .1, i .lengths), i .passable))
 
 pub audit-by-spec : {M : Type 1} → statement M
 audit-by-spec =

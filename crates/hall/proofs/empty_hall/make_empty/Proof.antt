@@ -30,7 +30,7 @@ returns c =
     let no-scores : tie.After-no-scores = search in let diagonal : tie.After-diagonal = search in
     let blank : tie.After-blank = search in let cells : tie.After-cells = search in let start : tie.Start = search in
     let d = diagonal .diagonal .ensures in
-    emptied _ (cells .cells .ensures .0) (lengths _ _ (start .pre .lengths) .scores) (blank .blank .ensures) (d .0) (d .1) (no-scores .no-scores .ensures)
+    emptied _ _ (cells .cells .ensures .0) (lengths _ _ (start .pre .lengths) .scores) (blank .blank .ensures) (d .0) (d .1) (no-scores .no-scores .ensures)
 
 pub make-empty-spec : {M : Type 1} → statement M
 make-empty-spec =

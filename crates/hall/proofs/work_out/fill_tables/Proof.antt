@@ -20,13 +20,13 @@ fill-all-requires c κs =
     let if1 : tie.Else1 = search in let valid : tie.After-valid = search in let start : tie.Start = search in
     let l = lengths _ _ (start .pre .lengths) in
     let (some, most) = stops _ (start .pre .size) in
-    (hall-measure, ((some, most, l .costs, held (valid .valid .ensures) (if1 .if1 .left)), record { times = l .times; counts = l .counts; shares = l .shares }))
+    (hall-measure, ((some, most, l .costs, held (valid .valid .ensures) (if1 .if1 .left)), ((l .passings, start .pre .passable), record { times = l .times; counts = l .counts; shares = l .shares })))
 
 sum-scores-requires : tie.Need-sum-scores-requires
 sum-scores-requires c κs =
     let if2 : tie.Else2 = search in let fill-all : tie.After-fill-all = search in let if1 : tie.Else1 = search in
     let valid : tie.After-valid = search in let start : tie.Start = search in (
-      work-shares _ _ _ _ _ _ (start .pre) (held (valid .valid .ensures) (if1 .if1 .left)) (fill-all .fill-all .ensures) (not-false _ (if2 .if2 .left)),
+      work-shares _ _ _ _ _ _ _ (start .pre) (held (valid .valid .ensures) (if1 .if1 .left)) (fill-all .fill-all .ensures) (not-false _ (if2 .if2 .left)),
       le-of-eq (sym (lengths _ _ (start .pre .lengths) .scores)),
     )
 

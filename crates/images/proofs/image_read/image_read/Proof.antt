@@ -3,6 +3,7 @@ use borrow.Author.Needs.{needs}
 use mathlib.Core.Path.{refl}
 use Rattle.book.specs.Call.{rule}
 use Rattle.routes.proofs.Booleans.{failed, held}
+use Rattle.book.proofs.Sizes.{passing-fits}
 use Rattle.book.proofs.Doors.{door-passed, door-refused}
 use Rattle.images.proofs.image_read.image_read.Statement.{statement}
 use Rattle.images.proofs.image_read.image_read.Tie as tie
@@ -11,7 +12,7 @@ returns : tie.Need-returns
 unfolding rule
 returns c =
     let if1 : tie.Then1 = search in let passes : tie.After-passes = search in let door : tie.After-door = search in
-    door-refused _ _ (λ s. refl) _ (door .door .ensures) (failed (passes .passes .ensures) (if1 .if1 .taken))
+    door-refused _ _ (passing-fits _ _) refl _ (door .door .ensures) (failed (passes .passes .ensures) (if1 .if1 .taken))
 
 read-tables-requires : tie.Need-read-tables-requires
 read-tables-requires c κs =

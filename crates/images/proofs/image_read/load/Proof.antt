@@ -12,7 +12,8 @@ use Rattle.book.specs.Hall.{validCosts, costsOf}
 use Rattle.book.proofs.Images.{length-read, read-valid}
 use Rattle.routes.proofs.Copies.{copied-whole}
 use Rattle.tables.proofs.Measured.{hall-measure}
-use Rattle.images.proofs.Reader.{take-replicate, loaded}
+use Rattle.routes.proofs.Lists.{take-replicate}
+use Rattle.images.proofs.Reader.{loaded}
 use borrow.Author.Needs.{needs}
 use Rattle.images.proofs.image_read.load.Statement.{statement}
 use Rattle.images.proofs.image_read.load.Tie as tie

@@ -14,13 +14,13 @@ load-requires c κs =
     let if1 : tie.Else1 = search in let is-image : tie.After-is-image = search in let start : tie.Start = search in
     let (some, most) = stops _ (start .pre .size) in
     let l = lengths _ _ (start .pre .lengths) in
-    ((some, most, held (is-image .is-image .ensures) (if1 .if1 .left), l .costs), record { times = l .times; counts = l .counts; shares = l .shares })
+    ((some, most, held (is-image .is-image .ensures) (if1 .if1 .left), l .costs), ((l .passings, start .pre .passable), record { times = l .times; counts = l .counts; shares = l .shares }))
 
 sum-scores-requires : tie.Need-sum-scores-requires
 sum-scores-requires c κs =
     let if2 : tie.Else2 = search in let load : tie.After-load = search in let if1 : tie.Else1 = search in
     let is-image : tie.After-is-image = search in let start : tie.Start = search in (
-      read-shares _ _ _ _ _ _ _ (start .pre) (held (is-image .is-image .ensures) (if1 .if1 .left)) (load .load .ensures) (not-false _ (if2 .if2 .left)),
+      read-shares _ _ _ _ _ _ _ _ (start .pre) (held (is-image .is-image .ensures) (if1 .if1 .left)) (load .load .ensures) (not-false _ (if2 .if2 .left)),
       le-of-eq (sym (lengths _ _ (start .pre .lengths) .scores)),
     )
 

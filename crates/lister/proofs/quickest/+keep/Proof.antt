@@ -17,20 +17,20 @@ use Rattle.lister.proofs.quickest.+keep.{statement}
 use Rattle.lister.proofs.quickest.+keep.Tie.{close}
 
 -- the stops that a route of k stops can still take
-abbrev μ-keep : Measures 3 keep-kinds.ps ℕ
-μ-keep κs a = 64 - a .1 .1 .1 .1 .1 .0
+abbrev μ-keep : Measures 4 keep-kinds.ps ℕ
+μ-keep κs a = 64 - a .1 .1 .1 .1 .1 .1 .0
 
-abbrev keep-at : ℕ → In 3 keep-kinds.ps
-keep-at t = and 3 keep-kinds.ps (is 3 keep-kinds.ps μ-keep t) keep.Pre
+abbrev keep-at : ℕ → In 4 keep-kinds.ps
+keep-at t = and 4 keep-kinds.ps (is 4 keep-kinds.ps μ-keep t) keep.Pre
 
-abbrev keep-below : ℕ → In 3 keep-kinds.ps
-keep-below t = and 3 keep-kinds.ps (falls 3 keep-kinds.ps _<_ μ-keep t) keep.Pre
+abbrev keep-below : ℕ → In 4 keep-kinds.ps
+keep-below t = and 4 keep-kinds.ps (falls 4 keep-kinds.ps _<_ μ-keep t) keep.Pre
 
 abbrev keep-Inv-loop : keep-lts.InvT-loop
-keep-Inv-loop cost n t least route₀ k buffer₀ from at₀ next₀ route buffer at next = (next ≤ n) × (length buffer ≡ length buffer₀) × Wrote at₀ at buffer₀ buffer
+keep-Inv-loop cost passing n t least route₀ k buffer₀ from at₀ next₀ route buffer at next = (next ≤ n) × (length buffer ≡ length buffer₀) × Wrote at₀ at buffer₀ buffer
 
 abbrev keep-μ-loop : keep-lts.MeasureT-loop
-keep-μ-loop cost n t least route₀ k buffer₀ from at₀ next₀ route buffer at next = n - next
+keep-μ-loop cost passing n t least route₀ k buffer₀ from at₀ next₀ route buffer at next = n - next
 
 pub +keep-spec : {M : Type 1} → statement M
 +keep-spec = close μ-keep λ t. keep-lts.spec (

@@ -12,20 +12,20 @@ use Rattle.lister.proofs.walk.+walk.{statement}
 use Rattle.lister.proofs.walk.+walk.Tie.{close}
 
 -- the stops that a route of k stops can still take
-abbrev μ-walk : Measures 3 walk-kinds.ps ℕ
-μ-walk κs a = 64 - a .1 .1 .1 .1 .1 .0
+abbrev μ-walk : Measures 4 walk-kinds.ps ℕ
+μ-walk κs a = 64 - a .1 .1 .1 .1 .1 .1 .0
 
-abbrev walk-at : ℕ → In 3 walk-kinds.ps
-walk-at t = and 3 walk-kinds.ps (is 3 walk-kinds.ps μ-walk t) walk.Pre
+abbrev walk-at : ℕ → In 4 walk-kinds.ps
+walk-at t = and 4 walk-kinds.ps (is 4 walk-kinds.ps μ-walk t) walk.Pre
 
-abbrev walk-below : ℕ → In 3 walk-kinds.ps
-walk-below t = and 3 walk-kinds.ps (falls 3 walk-kinds.ps _<_ μ-walk t) walk.Pre
+abbrev walk-below : ℕ → In 4 walk-kinds.ps
+walk-below t = and 4 walk-kinds.ps (falls 4 walk-kinds.ps _<_ μ-walk t) walk.Pre
 
 abbrev walk-Inv-loop : walk-lts.InvT-loop
-walk-Inv-loop cost n u v route₀ k tally₀ next₀ route tally next = next ≤ n
+walk-Inv-loop cost passing n u v route₀ k tally₀ next₀ route tally next = next ≤ n
 
 abbrev walk-μ-loop : walk-lts.MeasureT-loop
-walk-μ-loop cost n u v route₀ k tally₀ next₀ route tally next = n - next
+walk-μ-loop cost passing n u v route₀ k tally₀ next₀ route tally next = n - next
 
 pub +walk-spec : {M : Type 1} → statement M
 +walk-spec = close μ-walk λ t. walk-lts.spec (

@@ -14,11 +14,11 @@ edit-line-requires c κs =
 
 returns : tie.Need-returns
 returns c =
-    let edit-line : tie.After-edit-line = search in let edit-audited : tie.After-edit-audited = search in
-    let start : tie.Start = search in
-    let d = edit-audited .edit-audited .ensures in
+    let start : tie.Start = (let c : tie.After-edit-audited = search in search) in
+    let d = (let p : tie.After-edit-audited = search in p .edit-audited .ensures) in
+    let printed = (let p : tie.After-edit-line = search in p .edit-line .ensures) in
     let said = edit-said (start .pre .0) (start .args .e) d (start .args .i) in
-    record { left = edit-left (start .pre .0) (start .args .e) d; printed = rw said (edit-line .edit-line .ensures) }
+    record { left = edit-left (start .pre .0) (start .args .e) d; printed = rw said printed }
 
 pub edit-spec : {M : Type 1} → statement M
 edit-spec =

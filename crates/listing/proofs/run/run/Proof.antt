@@ -13,11 +13,11 @@ use Rattle.listing.proofs.run.run.Statement.{statement}
 use Rattle.listing.proofs.run.run.Tie as tie
 
 abbrev Inv-loop : tie.InvT-loop
-Inv-loop n text first out₀ start cost₀ time₀ ways₀ share₀ score₀ at₀ i₀ from₀ out cost time ways share score at i from =
-    Going n text first out₀ start (tables cost₀ time₀ ways₀ share₀ score₀) (tables cost time ways share score) out at i from
+Inv-loop n text first out₀ start cost₀ passing time₀ ways₀ share₀ score₀ at₀ i₀ from₀ out cost time ways share score at i from =
+    Going n text first out₀ start (tables cost₀ passing time₀ ways₀ share₀ score₀) (tables cost passing time ways share score) out at i from
 
 abbrev μ-loop : tie.MeasureT-loop
-μ-loop n text first out₀ start cost₀ time₀ ways₀ share₀ score₀ at₀ i₀ from₀ out cost time ways share score at i from =
+μ-loop n text first out₀ start cost₀ passing time₀ ways₀ share₀ score₀ at₀ i₀ from₀ out cost time ways share score at i from =
     length text - from
 
 loop-holds : tie.Need-loop-holds Inv-loop μ-loop

@@ -1,7 +1,7 @@
 -- The calls that `edit_list` makes, apart from its code. Of a callee the proof knows its contract alone, and no promise of `course` is opened.
 --     Turning, Beginning, OneTurn, Finishing       the callees' contracts, as triples
 --     turns-at, to-turns, of-turns     `turns`, which takes no table: what its triple binds outside, that the caller has what it asks, and what it gives
---     begins, turns-one, finishes      the three that are lent the tables again (`Lending.antt`)
+--     begins, turns-one, finishes      the three to which the tables are lent on (`Lending.antt`)
 -- They take `Given`.
 use mathlib.Core.Path.{_≡_, refl}
 use Prim.Native.Nat.{ℕ, _<_, _^_}
@@ -38,9 +38,9 @@ use Rattle.course.proofs.begin.turns as turns
 use Rattle.course.proofs.begin.begin as begin
 use Rattle.course.proofs.turn.turn as turn
 use Rattle.course.proofs.finish.finish as finish
-use Rattle.lists.proofs.Slices.{Lists, lives, names, whole, refs, vals}
-use Rattle.lists.proofs.Lending.{Lent, Alive, LentCall}
-use Rattle.lists.proofs.edit_list.Proof.Parameters.{Passed, five, lent, first, at, start, many}
+use Rattle.lists.proofs.Slices.{Lists, vals}
+use Rattle.lists.proofs.Lending.{lent-lifetimes, lent-shares, lent-refs, Lent, Alive, LentCall}
+use Rattle.lists.proofs.edit_list.Proof.Parameters.{Passed, six, lent, first, at, start, many}
 
 module _ {M : Type 1} (𝓤 : URA M) (H : Heap 𝓤) (A : Atoms 𝓤) (mem : Memory → SProp 𝓤) (run : Routine → Fun 𝓤) where
   abbrev pub Turning : Contract 𝓤
@@ -75,7 +75,7 @@ module _ {M : Type 1} (𝓤 : URA M) (H : Heap 𝓤) (A : Atoms 𝓤) (W : Given
     abbrev pub begins : many p < 2 ^ 64 → LentCall 𝓤 H A (lent p) (first p)
     begins many-fits = record {
       contract = Beginning 𝓤 H A mem run;
-      bound = λ new. ((lives (five p) new, whole (five p), tt, (p .n, (many p, refs (five p) (names (five p) new) (first p))), (vint w64 (p .n) ∷ [], (vint w64 (many p) ∷ [], vals (five p)))), tt);
+      bound = λ new. ((lent-lifetimes (lent p) new, lent-shares (lent p) new, tt, (p .n, (many p, lent-refs (lent p) new (first p))), (vint w64 (p .n) ∷ [], (vint w64 (many p) ∷ [], vals (six p)))), tt);
       asks = λ new. qed W (‵ (Lent (lent p) new (first p)) ∷ ‵ (Alive (lent p) new) ∷ []) ∵ owned ! usize (Is usize) (uint-makes 𝓤 H A W w64) (many p) (vint w64 (many p) ∷ []) (refl, many-fits) $ fjoin ! $
           owned ! u64 (Is u64) (uint-makes 𝓤 H A W w64) (p .n) (vint w64 (p .n) ∷ []) (refl, n-fits) $ fjoin ! $ move ! (1 ∷ 0 ∷ []) $ join ! $ frame ! $ nothing ! $ done !;
       plain = 2;
@@ -85,10 +85,10 @@ module _ {M : Type 1} (𝓤 : URA M) (H : Heap 𝓤) (A : Atoms 𝓤) (W : Given
     }
 
     -- ---- turn, of the edit e and the course c, whose machine values are u and w, at the lists l
-    abbrev pub turns-one : (e : Edit) (u : Val) → Is EditT.the-row e (u ∷ []) → (c : Course) (w : Val) → Is CourseT.the-row c (w ∷ []) → (l : Lists (five p)) → Open (p .n) c (at p l) → LentCall 𝓤 H A (lent p) l
+    abbrev pub turns-one : (e : Edit) (u : Val) → Is EditT.the-row e (u ∷ []) → (c : Course) (w : Val) → Is CourseT.the-row c (w ∷ []) → (l : Lists (six p)) → Open (p .n) c (at p l) → LentCall 𝓤 H A (lent p) l
     turns-one e u is-e c w is-c l open-for = record {
       contract = OneTurn 𝓤 H A mem run;
-      bound = λ new. ((lives (five p) new, whole (five p), tt, (p .n, (e, (c, refs (five p) (names (five p) new) l))), (vint w64 (p .n) ∷ [], (u ∷ [], (w ∷ [], vals (five p))))), tt);
+      bound = λ new. ((lent-lifetimes (lent p) new, lent-shares (lent p) new, tt, (p .n, (e, (c, lent-refs (lent p) new l))), (vint w64 (p .n) ∷ [], (u ∷ [], (w ∷ [], vals (six p))))), tt);
       asks = λ new. qed W (‵ (Lent (lent p) new l) ∷ ‵ (Alive (lent p) new) ∷ []) ∵ says ! open-for $ owned ! CourseT.the-row (Is CourseT.the-row) (LL.makes CourseT.the-type CourseL.the-plain 𝓤 H A) c (w ∷ []) is-c $ fjoin ! $
           owned ! EditT.the-row (Is EditT.the-row) (LL.makes EditT.the-type EditL.the-plain 𝓤 H A) e (u ∷ []) is-e $ fjoin ! $
           owned ! u64 (Is u64) (uint-makes 𝓤 H A W w64) (p .n) (vint w64 (p .n) ∷ []) (refl, n-fits) $ fjoin ! $ move ! (1 ∷ 0 ∷ []) $ done !;
@@ -99,10 +99,10 @@ module _ {M : Type 1} (𝓤 : URA M) (H : Heap 𝓤) (A : Atoms 𝓤) (W : Given
     }
 
     -- ---- finish, of the course c, whose machine value is w, at the lists l
-    abbrev pub finishes : (c : Course) (w : Val) → Is CourseT.the-row c (w ∷ []) → (l : Lists (five p)) → Closing (p .n) c (at p l) → LentCall 𝓤 H A (lent p) l
+    abbrev pub finishes : (c : Course) (w : Val) → Is CourseT.the-row c (w ∷ []) → (l : Lists (six p)) → Closing (p .n) c (at p l) → LentCall 𝓤 H A (lent p) l
     finishes c w is-c l closing = record {
       contract = Finishing 𝓤 H A mem run;
-      bound = λ new. ((lives (five p) new, whole (five p), tt, (p .n, (c, refs (five p) (names (five p) new) l)), (vint w64 (p .n) ∷ [], (w ∷ [], vals (five p)))), tt);
+      bound = λ new. ((lent-lifetimes (lent p) new, lent-shares (lent p) new, tt, (p .n, (c, lent-refs (lent p) new l)), (vint w64 (p .n) ∷ [], (w ∷ [], vals (six p)))), tt);
       asks = λ new. qed W (‵ (Lent (lent p) new l) ∷ ‵ (Alive (lent p) new) ∷ []) ∵ says ! closing $ owned ! CourseT.the-row (Is CourseT.the-row) (LL.makes CourseT.the-type CourseL.the-plain 𝓤 H A) c (w ∷ []) is-c $ fjoin ! $
           owned ! u64 (Is u64) (uint-makes 𝓤 H A W w64) (p .n) (vint w64 (p .n) ∷ []) (refl, n-fits) $ fjoin ! $ move ! (1 ∷ 0 ∷ []) $ done !;
       plain = 2;

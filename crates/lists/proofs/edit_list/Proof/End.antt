@@ -1,4 +1,4 @@
--- The end of `edit_list`, from where the loop is left: the five tables are lent again to `finish`, and what it returns is returned.
+-- The end of `edit_list`, from where the loop is left: the tables are lent on to `finish`, and what it returns is returned.
 -- It takes `Given`.
 use mathlib.Core.Path.{_≡_, refl, subst}
 use Prim.Native.Nat.{ℕ, _≤_}
@@ -32,12 +32,12 @@ module _ {M : Type 1} (𝓤 : URA M) (H : Heap 𝓤) (A : Atoms 𝓤) (W : Given
   -- entry n + 2 of the context is local n
   pub ends : k ≡ turnsOf (many p) → (s : State p k) → k ≤ s .i → Sq W (Inv p k 𝓤 H bs s) (runs (𝓣 .C) (𝓣 .Λ) (E 𝓤 H bs) parts.t-16 (atRet (E 𝓤 H bs) (Post 𝓤 H A mem run p)))
   ends said s last =
-      reborrows ! 5 38 39 (fits .cost) refl refl refl refl refl refl refl refl $ reborrows ! 6 40 41 (fits .time) refl refl refl refl refl refl refl refl $ reborrows ! 7 42 43 (fits .ways) refl refl refl refl refl refl refl refl $
-      reborrows ! 8 44 45 (fits .share) refl refl refl refl refl refl refl refl $ reborrows ! 9 46 47 (fits .score) refl refl refl refl refl refl refl refl $
+      reborrows ! 5 39 40 (fits .cost) refl refl refl refl refl refl refl refl $ reborrows ! 7 41 42 (fits .time) refl refl refl refl refl refl refl refl $ reborrows ! 8 43 44 (fits .ways) refl refl refl refl refl refl refl refl $
+      reborrows ! 9 45 46 (fits .share) refl refl refl refl refl refl refl refl $ reborrows ! 10 47 48 (fits .score) refl refl refl refl refl refl refl refl $
       -- entry n + 3 while the call is made
       calls-lent ! (fmOf 𝓤 H (W .laws) 𝓣) (finishes 𝓤 H A W mem run p (fits .n) (s .c) (s .w) (s .is) (s .l) (going-closes (p .n) (edits p) (start p) (s .i) (s .c) (at p (s .l)) (s .going))) (known .finish)
-      (λ new. and-then ! (copied ! 4 refl) (and-then ! (copied ! 13 refl) (and-then ! (copied ! 40 refl) (and-then ! (copied ! 42 refl)
-      (and-then ! (copied ! 44 refl) (and-then ! (copied ! 46 refl) (and-then ! (copied ! 48 refl) (no-more !)))))))) (λ v r z told is.
+      (λ new. and-then ! (copied ! 4 refl) (and-then ! (copied ! 14 refl) (and-then ! (copied ! 41 refl) (and-then ! (copied ! 7 refl) (and-then ! (copied ! 43 refl)
+      (and-then ! (copied ! 45 refl) (and-then ! (copied ! 47 refl) (and-then ! (copied ! 49 refl) (no-more !))))))))) (λ v r z told is.
       land ! (from ! (stop !)) (init ! 2 refl (LL.lawful AnswerT.the-type AnswerL.the-laws 𝓤 H A W .typed r (v ∷ []) is .0)) $ returns ! (look ! 2 refl) $
-      forget ! 38 refl $ forget ! 39 refl $ forget ! 40 refl $ forget ! 41 refl $ forget ! 42 refl $ forget ! 43 refl $ forget ! 44 refl $ forget ! 45 refl $ forget ! 46 refl $ forget ! 47 refl $
+      forget ! 39 refl $ forget ! 40 refl $ forget ! 41 refl $ forget ! 42 refl $ forget ! 43 refl $ forget ! 44 refl $ forget ! 45 refl $ forget ! 46 refl $ forget ! 47 refl $ forget ! 48 refl $
       join ! $ frees-all ! (holding p k (some v) s) $ by ! (exits 𝓤 H A mem run p W (fits .n) r v z is (going-ends (p .n) (edits p) (start p) (s .i) (s .c) (at p (s .l)) (s .going) (subst (λ (j : ℕ). j ≤ s .i) said last) r (at p z) told)))

@@ -36,13 +36,14 @@ use Rattle.lists.proofs.Slices.{Lists}
 use Rattle.lists.proofs.Lending.{Held}
 use Rattle.lists.proofs.Locals.{Homes, env, stands, Dies}
 use Rattle.lists.proofs.edit_list.Code as code
-use Rattle.lists.proofs.edit_list.Proof.Parameters.{Passed, five, lent, at, start, edits, many, list-val, of-slice, Shown}
+use Rattle.lists.proofs.edit_list.Proof.Parameters.{Passed, six, lent, at, start, edits, many, list-val, of-slice, Shown}
 use Rattle.lists.proofs.edit_list.Proof.Calls.{Turning, Beginning, OneTurn, Finishing}
 
 pub record Fits (p : Passed) : Type 0 where
   pub n : p .n < 2 ^ 64
   pub list : Room EditT.the-row (many p)
   pub cost : length (p .cost .now) < 2 ^ 64
+  pub passing : length (p .passing .now) < 2 ^ 64
   pub time : length (p .time .now) < 2 ^ 64
   pub ways : length (p .ways .now) < 2 ^ 64
   pub share : length (p .share .now) < 2 ^ 64
@@ -55,9 +56,9 @@ pub record Callees {M : Type 1} (𝓤 : URA M) (H : Heap 𝓤) (A : Atoms 𝓤) 
   pub finish : Triple 𝓤 (C #course·finish) (Finishing 𝓤 H A mem run)
 
 -- ---- the locals, by their numbers
---     0 the result        1 n        2 the list        3 to 7 the tables        8 the list's length        9 the number of turns        10 the course        11 i
---     12 to 21, 26 to 35, 36 to 45     the tables lent again for `begin`, for `turn` and for `finish`: a pointer and a slice for each
---     22 the loop's test        23, 24 the offset and the address of the edit at i        25 that edit
+--     0 the result        1 n        2 the list        3 to 8 the tables        9 the list's length        10 the number of turns        11 the course        12 i
+--     13 to 22, 27 to 36, 37 to 46     the tables lent again for `begin`, for `turn` and for `finish`: a pointer and a slice for each but the passing times, whose slice is handed on as it is
+--     23 the loop's test        24, 25 the offset and the address of the edit at i        26 that edit
 abbrev pub Places : Type 0
 Places = Homes (code.function .locals)
 
@@ -73,7 +74,7 @@ pub record State (p : Passed) (k : ℕ) : Type 0 where
   pub i : ℕ
   pub c : Course
   pub w : Val
-  pub l : Lists (five p)
+  pub l : Lists (six p)
   pub is : Is CourseT.the-row c (w ∷ [])
   pub going : Going (p .n) (edits p) (start p) i c (at p l)
 
@@ -86,7 +87,7 @@ module _ (p : Passed) (k : ℕ) where
 
   -- what each local holds, the result first: `r` is what is in the result's place, and nothing stands in the temporaries
   abbrev pub holding : Option Val → State p k → List (Option Val)
-  holding r s = r ∷ some (vint w64 (p .n)) ∷ some (list-val p) ∷ some (of-slice (p .cost)) ∷ some (of-slice (p .time)) ∷ some (of-slice (p .ways)) ∷ some (of-slice (p .share)) ∷ some (of-slice (p .score))
+  holding r s = r ∷ some (vint w64 (p .n)) ∷ some (list-val p) ∷ some (of-slice (p .cost)) ∷ some (of-slice (p .passing)) ∷ some (of-slice (p .time)) ∷ some (of-slice (p .ways)) ∷ some (of-slice (p .share)) ∷ some (of-slice (p .score))
       ∷ some (vint w64 (many p)) ∷ some (vint w64 k) ∷ some (s .w) ∷ some (vint w64 (s .i)) ∷ []
 
   abbrev pub Inv : {M : Type 1} (𝓤 : URA M) (H : Heap 𝓤) (bs : Places) → State p k → List (Item 𝓤)

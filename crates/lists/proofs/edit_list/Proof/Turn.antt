@@ -1,4 +1,4 @@
--- One turn of the loop of `edit_list`: the edit at i is read out of the list, and handed to `turn` with the course and with the five tables, which are lent again; or the loop is left.
+-- One turn of the loop of `edit_list`: the edit at i is read out of the list, and handed to `turn` with the course and with the tables, which are lent on; or the loop is left.
 --     turns-once   a turn from the loop's invariant.        loop     the loop, with the code after it
 -- Both take `Given`.
 use mathlib.Core.Path.{_≡_, refl, sym, subst}
@@ -40,7 +40,7 @@ use Rattle.lists.proofs.Lending.{calls-lent}
 use Rattle.lists.proofs.Element.{copies-element}
 use Rattle.lists.proofs.Statements.{copied, tests, reborrows}
 use Rattle.lists.proofs.edit_list.Code.Mir as parts
-use Rattle.lists.proofs.edit_list.Proof.Parameters.{Passed, five, at, start, edits, many}
+use Rattle.lists.proofs.edit_list.Proof.Parameters.{Passed, six, at, start, edits, many}
 use Rattle.lists.proofs.edit_list.Proof.Calls.{turns-one}
 use Rattle.lists.proofs.edit_list.Proof.Exit.{Post}
 use Rattle.lists.proofs.edit_list.Proof.Invariant.{Fits, Callees, Places, E, home, State, Nearer, Nearer-wf, Inv}
@@ -79,7 +79,7 @@ module _ {M : Type 1} (𝓤 : URA M) (H : Heap 𝓤) (A : Atoms 𝓤) (W : Given
     next-fits less = let room : many p < 2 ^ 64 = fits .list .0 in omega (arith, less, room)
 
     -- the state after the edit at i
-    abbrev next : T (ltb (s .i) k) → (c : Course) (v : Val) (l : Lists (five p)) → Turned (p .n) e (s .c) c (at p (s .l)) (at p l) → Is CourseT.the-row c (v ∷ []) → State p k
+    abbrev next : T (ltb (s .i) k) → (c : Course) (v : Val) (l : Lists (six p)) → Turned (p .n) e (s .c) c (at p (s .l)) (at p l) → Is CourseT.the-row c (v ∷ []) → State p k
     next less c v l told is = record {
       i = s .i + 1;
       c = c;
@@ -93,27 +93,27 @@ module _ {M : Type 1} (𝓤 : URA M) (H : Heap 𝓤) (A : Atoms 𝓤) (W : Given
     turns-once : Sq W (Inv p k 𝓤 H bs s) (runs (𝓣 .C) (𝓣 .Λ) (E 𝓤 H bs) parts.turn-1 (anyQ (Next s)))
     unfolding afterTurn
     turns-once =
-        assigns ! (bin ! (copied ! 13 refl) (copied ! 11 refl) tt) (from ! (stop !)) (init ! 24 refl (tt, tt)) $
-        tests ! (copied ! 24 refl) (λ less.
+        assigns ! (bin ! (copied ! 14 refl) (copied ! 12 refl) tt) (from ! (stop !)) (init ! 25 refl (tt, tt)) $
+        tests ! (copied ! 25 refl) (λ less.
         -- the place of the edit at i
-        assigns ! (bin ! (copied ! 13 refl) (lit ! tt) (record { fits = offset-fits (within less) })) (from ! (stop !)) (init ! 25 refl (tt, record { fits = offset-fits (within less) })) $
-        assigns ! (bin ! (load ! (from ! (fld ! refl (stop !))) (look-in ! 4 (sub ! 0 refl (whole !)))) (copied ! 25 refl) tt) (from ! (stop !)) (init ! 26 refl (tt, tt)) $
-        rewrite ! 26 (λ (o : ℕ). ‵ (fat fullShare tyPtr (home 𝓤 H bs 24) 0 (vptr (p .list .ptr .0) o))) (sym (place-is 32 (p .list .ptr .1) (s .i))) refl $
+        assigns ! (bin ! (copied ! 14 refl) (lit ! tt) (record { fits = offset-fits (within less) })) (from ! (stop !)) (init ! 26 refl (tt, record { fits = offset-fits (within less) })) $
+        assigns ! (bin ! (load ! (from ! (fld ! refl (stop !))) (look-in ! 4 (sub ! 0 refl (whole !)))) (copied ! 26 refl) tt) (from ! (stop !)) (init ! 27 refl (tt, tt)) $
+        rewrite ! 27 (λ (o : ℕ). ‵ (fat fullShare tyPtr (home 𝓤 H bs 25) 0 (vptr (p .list .ptr .0) o))) (sym (place-is 32 (p .list .ptr .1) (s .i))) refl $
         -- the edit is copied
-        move ! (1 ∷ 0 ∷ []) $ copies-element ! EditT.the-type EditL.the-laws EditL.the-copy (p .list) (s .i) other (within less) 25 26 refl refl refl refl (λ is-e. move ! (1 ∷ 0 ∷ []) $
+        move ! (1 ∷ 0 ∷ []) $ copies-element ! EditT.the-type EditL.the-laws EditL.the-copy (p .list) (s .i) other (within less) 26 27 refl refl refl refl (λ is-e. move ! (1 ∷ 0 ∷ []) $
         -- the call
-        reborrows ! 5 28 29 (fits .cost) refl refl refl refl refl refl refl refl $ reborrows ! 6 30 31 (fits .time) refl refl refl refl refl refl refl refl $ reborrows ! 7 32 33 (fits .ways) refl refl refl refl refl refl refl refl $
-        reborrows ! 8 34 35 (fits .share) refl refl refl refl refl refl refl refl $ reborrows ! 9 36 37 (fits .score) refl refl refl refl refl refl refl refl $
+        reborrows ! 5 29 30 (fits .cost) refl refl refl refl refl refl refl refl $ reborrows ! 7 31 32 (fits .time) refl refl refl refl refl refl refl refl $ reborrows ! 8 33 34 (fits .ways) refl refl refl refl refl refl refl refl $
+        reborrows ! 9 35 36 (fits .share) refl refl refl refl refl refl refl refl $ reborrows ! 10 37 38 (fits .score) refl refl refl refl refl refl refl refl $
         -- entry n + 3 while the call is made
         calls-lent ! (fmOf 𝓤 H (W .laws) 𝓣) (turns-one 𝓤 H A W mem run p (fits .n) e (mach e) is-e (s .c) (s .w) (s .is) (s .l) (going-open (p .n) (edits p) (start p) (s .i) (s .c) (at p (s .l)) (s .going) (has-turn less))) (known .turn)
-        (λ new. and-then ! (copied ! 4 refl) (and-then ! (copied ! 28 refl) (and-then ! (copied ! 13 refl)
-        (and-then ! (copied ! 30 refl) (and-then ! (copied ! 32 refl) (and-then ! (copied ! 34 refl)
-        (and-then ! (copied ! 36 refl) (and-then ! (copied ! 38 refl) (no-more !))))))))) (λ v c z told is.
-        land ! (from ! (stop !)) (store ! 12 refl (LL.lawful CourseT.the-type CourseL.the-laws 𝓤 H A W .typed c (v ∷ []) is .0)) $
-        assigns-last ! (bin ! (copied ! 13 refl) (lit ! tt) (record { fits = next-fits (within less) })) (from ! (stop !)) (store ! 13 refl (tt, record { fits = next-fits (within less) })) $
-        forget ! 24 refl $ forget ! 25 refl $ forget ! 26 refl $ forget ! 27 refl $ forget ! 28 refl $ forget ! 29 refl $ forget ! 30 refl $ forget ! 31 refl $ forget ! 32 refl $ forget ! 33 refl $ forget ! 34 refl $ forget ! 35 refl $ forget ! 36 refl $ forget ! 37 refl $
+        (λ new. and-then ! (copied ! 4 refl) (and-then ! (copied ! 29 refl) (and-then ! (copied ! 14 refl)
+        (and-then ! (copied ! 31 refl) (and-then ! (copied ! 7 refl) (and-then ! (copied ! 33 refl) (and-then ! (copied ! 35 refl)
+        (and-then ! (copied ! 37 refl) (and-then ! (copied ! 39 refl) (no-more !)))))))))) (λ v c z told is.
+        land ! (from ! (stop !)) (store ! 13 refl (LL.lawful CourseT.the-type CourseL.the-laws 𝓤 H A W .typed c (v ∷ []) is .0)) $
+        assigns-last ! (bin ! (copied ! 14 refl) (lit ! tt) (record { fits = next-fits (within less) })) (from ! (stop !)) (store ! 14 refl (tt, record { fits = next-fits (within less) })) $
+        forget ! 25 refl $ forget ! 26 refl $ forget ! 27 refl $ forget ! 28 refl $ forget ! 29 refl $ forget ! 30 refl $ forget ! 31 refl $ forget ! 32 refl $ forget ! 33 refl $ forget ! 34 refl $ forget ! 35 refl $ forget ! 36 refl $ forget ! 37 refl $ forget ! 38 refl $
         again ! (Nearer p k) (Inv p k 𝓤 H bs) s (next less c v z told is) (add-one-dec k (s .i) (ltb→lt (s .i) k less)))))
-        (λ over. forget ! 24 refl $ exec ! (𝓣 .C) (𝓣 .Λ) (E 𝓤 H bs) parts.t-16 (atRet (E 𝓤 H bs) (Post 𝓤 H A mem run p)) $
+        (λ over. forget ! 25 refl $ exec ! (𝓣 .C) (𝓣 .Λ) (E 𝓤 H bs) parts.t-16 (atRet (E 𝓤 H bs) (Post 𝓤 H A mem run p)) $
         ends 𝓤 H A W mem run p fits 𝓣 known bs k said s (nltb→le (s .i) k over))
 
   -- the loop, and the rest of the body after it

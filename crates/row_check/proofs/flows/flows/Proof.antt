@@ -7,10 +7,10 @@ use Rattle.row_check.proofs.flows.flows.Statement.{statement}
 use Rattle.row_check.proofs.flows.flows.Tie as tie
 
 abbrev Inv-loop : tie.InvT-loop
-Inv-loop n s cost out time ways psi sum₀ flow₀ bad₀ u₀ sum flow bad u = (u ≤ n) × Balancing n s cost out time ways psi sum₀ flow₀ u sum flow bad
+Inv-loop n s cost passing out time ways psi sum₀ flow₀ bad₀ u₀ sum flow bad u = (u ≤ n) × Balancing n s cost passing out time ways psi sum₀ flow₀ u sum flow bad
 
 abbrev μ-loop : tie.MeasureT-loop
-μ-loop n s cost out time ways psi sum₀ flow₀ bad₀ u₀ sum flow bad u = n - u
+μ-loop n s cost passing out time ways psi sum₀ flow₀ bad₀ u₀ sum flow bad u = n - u
 
 pub flows-spec : {M : Type 1} → statement M
 flows-spec =

@@ -3,18 +3,24 @@ use borrow.Author.Needs.{needs}
 use mathlib.Core.Path.{sym, _∙_}
 use native.Mathlib.Omega.{arith}
 use borrow.Author.Tests.{ltb-true, not-true, not-false}
+use Rattle.book.specs.Contract.{thisLayout}
+use Rattle.book.proofs.Small.{Workable}
 use Rattle.tables.proofs.Masked.{job-all}
 use Rattle.routes.proofs.Copies.{restored}
 use Rattle.tables.proofs.Worked.{filled-said, filled-worked}
 use Rattle.tables.proofs.fill_all.fill_all.Statement.{statement}
 use Rattle.tables.proofs.fill_all.fill_all.Tie as tie
 
+-- the lent layout can be worked out
+workable : (c : tie.Start) → Workable (c .args .n) (thisLayout (c .args .cost) (c .args .passing))
+workable c = let p = c .pre in record { most = p .1 .0 .1; square = p .1 .0 .2; long = p .1 .1 .0 .0; valid = p .1 .0 .3; passable = p .1 .1 .0 .1 }
+
 fill-rows-requires : tie.Need-fill-rows-requires
 fill-rows-requires c κs =
     let start : tie.Start = search in let all-links = (let p : tie.After-all-links = search in p .all-links) in
     let all-sources = (let p : tie.After-all-sources = search in p .all-sources) in
     let p = start .pre in
-    (p .0, (job-all _ _ (p .1 .0 .1) (p .1 .0 .2) (p .1 .0 .3) _ (all-links .ensures), (p .1 .1, λ s e. ltb-true s _ (sym (all-sources .ensures s) ∙ e))))
+    (p .0, (job-all (workable start) _ (all-links .ensures), (p .1 .1 .1, λ s e. ltb-true s _ (sym (all-sources .ensures s) ∙ e))))
 
 copy32-requires-3 : tie.Need-copy32-requires-3
 copy32-requires-3 c κs =
@@ -44,42 +50,38 @@ copy64-requires-2 c κs =
 returns : tie.Need-returns
 returns c =
     let start : tie.Start = (let c : tie.After-time2 = search in let c : tie.After-fill-rows = search in search) in
-    let cells = (let c : tie.After-time = search in let c : tie.After-copy322 = search in let p : tie.After-cells = search in p .cells) in
-    let copy32 = (let c : tie.After-ways = search in let p : tie.After-copy32 = search in p .copy32) in
-    let copy322 = (let c : tie.After-share = search in let p : tie.After-copy322 = search in p .copy322) in
-    let copy64 = (let c : tie.After-copy324 = search in let c : tie.Then1 = search in let p : tie.After-copy64 = search in p .copy64) in
-    let all-links = (let c : tie.After-times3 = search in let p : tie.After-all-links = search in p .all-links) in
-    let all-sources = (let c : tie.After-times3 = search in let p : tie.After-all-sources = search in p .all-sources) in
-    let fill-rows = (let c : tie.After-time2 = search in let p : tie.After-fill-rows = search in p .fill-rows) in
-    let if1 = (let c : tie.After-copy324 = search in let p : tie.Then1 = search in p .if1) in
-    let copy323 = (let c : tie.After-ways2 = search in let p : tie.After-copy323 = search in p .copy323) in
-    let copy324 = (let p : tie.After-copy324 = search in p .copy324) in
-    let copy642 = (let p : tie.After-copy642 = search in p .copy642) in
-    let p = start .pre in
-    let q = sym (cells .ensures .0) in
-    let k = fill-rows .ensures .lengths in
-    let said =
-    filled-said _ _ _ _ _ _ _ _ _ _ _ _ _ (p .1 .0 .1) (p .1 .0 .2) (p .1 .0 .3) (all-links .ensures) (all-sources .ensures)
-    (fill-rows .ensures) in
+    let q = (let c : tie.After-time = search in let c : tie.After-copy322 = search in let p : tie.After-cells = search in sym (p .cells .ensures .0)) in
+    let times = (let c : tie.After-ways = search in let c : tie.After-copy322 = search in let p : tie.After-copy32 = search in p .copy32 .ensures) in
+    let counts = (let c : tie.After-share = search in let c : tie.After-all-links = search in let p : tie.After-copy322 = search in p .copy322 .ensures) in
+    let shares = (let c : tie.After-copy324 = search in let c : tie.Then1 = search in let p : tie.After-copy64 = search in p .copy64 .ensures) in
+    let links = (let c : tie.After-copy324 = search in let c : tie.Then1 = search in let p : tie.After-all-links = search in p .all-links .ensures) in
+    let all = (let c : tie.After-copy324 = search in let c : tie.Then1 = search in let p : tie.After-all-sources = search in p .all-sources .ensures) in
+    let done = (let c : tie.After-time2 = search in let p : tie.After-fill-rows = search in p .fill-rows .ensures) in
+    let crowded = (let c : tie.After-copy324 = search in let p : tie.Then1 = search in p .if1 .taken) in
+    let times-back = (let c : tie.After-ways2 = search in let p : tie.After-copy323 = search in p .copy323 .ensures) in
+    let counts-back = (let p : tie.After-copy324 = search in p .copy324 .ensures) in
+    let shares-back = (let p : tie.After-copy642 = search in p .copy642 .ensures) in
+    let p = start .pre .1 .1 .1 in
+    let k = done .lengths in
     record {
-      said = sym (not-true _ (sym said ∙ if1 .taken));
-      times = restored _ _ (p .1 .1 .times ∙ q) _ _ (k .times ∙ q) (copy32 .ensures) (copy323 .ensures);
-      counts = restored _ _ (p .1 .1 .counts ∙ q) _ _ (k .counts ∙ q) (copy322 .ensures) (copy324 .ensures);
-      shares = restored _ _ (p .1 .1 .shares ∙ q) _ _ (k .shares ∙ q) (copy64 .ensures) (copy642 .ensures);
+      said = sym (not-true _ (sym (filled-said _ _ _ _ _ _ _ _ _ _ _ _ _ (workable start) links all done) ∙ crowded));
+      times = restored _ _ (p .times ∙ q) _ _ (k .times ∙ q) times times-back;
+      counts = restored _ _ (p .counts ∙ q) _ _ (k .counts ∙ q) counts counts-back;
+      shares = restored _ _ (p .shares ∙ q) _ _ (k .shares ∙ q) shares shares-back;
     }
 
 returns-2 : tie.Need-returns-2
 returns-2 c =
-    let start : tie.Start = search in let all-links = (let p : tie.After-all-links = search in p .all-links) in
+    let start : tie.Start = (let c : tie.After-copy322 = search in search) in let all-links = (let p : tie.After-all-links = search in p .all-links) in
     let all-sources = (let p : tie.After-all-sources = search in p .all-sources) in
     let fill-rows = (let p : tie.After-fill-rows = search in p .fill-rows) in
     let p = start .pre in
     let links = all-links .ensures in
     let all = all-sources .ensures in
     let done = fill-rows .ensures in
-    let uncrowded = not-false _ (sym (filled-said _ _ _ _ _ _ _ _ _ _ _ _ _ (p .1 .0 .1) (p .1 .0 .2) (p .1 .0 .3) links all done) ∙ c .if1 .left) in
+    let uncrowded = not-false _ (sym (filled-said _ _ _ _ _ _ _ _ _ _ _ _ _ (workable start) links all done) ∙ c .if1 .left) in
     let w =
-    filled-worked _ _ _ _ _ _ _ _ _ _ _ _ _ (p .1 .0 .1) (p .1 .0 .2) (p .1 .0 .3) links all done uncrowded in
+    filled-worked _ _ _ _ _ _ _ _ _ _ _ _ _ (workable start) links all done uncrowded in
     record { said = sym uncrowded; times = w .times; counts = w .counts; shares = w .shares }
 
 pub fill-all-spec : {M : Type 1} → statement M

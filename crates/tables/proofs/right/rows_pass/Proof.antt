@@ -4,7 +4,7 @@ use Prim.Native.Nat.{_≤_, _-_}
 use mathlib.Core.Path.{_≡_, refl}
 use native.Mathlib.Omega.{arith}
 use Rattle.routes.specs.Route.{allTo}
-use Rattle.links.specs.Promise.{masked}
+use Rattle.links.specs.Promise.{maskedFrom}
 use Rattle.row_check.specs.Promise.{isRow}
 use Rattle.tables.specs.Promise.{part}
 use Rattle.routes.proofs.Tests.{all-next, all-end}
@@ -12,11 +12,11 @@ use Rattle.tables.proofs.right.rows_pass.Statement.{statement}
 use Rattle.tables.proofs.right.rows_pass.Tie as tie
 
 abbrev Inv-loop : tie.InvT-loop
-Inv-loop limit scale n cost out time ways share good₀ s₀ good s =
-    (s ≤ n) × (good ≡ allTo s (λ x. isRow (masked n cost out) n x limit scale (part n time x) (part n ways x) (part n share x)))
+Inv-loop limit scale n cost passing out time ways share good₀ s₀ good s =
+    (s ≤ n) × (good ≡ allTo s (λ x. isRow (maskedFrom n x cost passing out) n x limit scale (part n time x) (part n ways x) (part n share x)))
 
 abbrev μ-loop : tie.MeasureT-loop
-μ-loop limit scale n cost out time ways share good₀ s₀ good s = n - s
+μ-loop limit scale n cost passing out time ways share good₀ s₀ good s = n - s
 
 loop-holds : tie.Need-loop-holds Inv-loop μ-loop
 unfolding allTo

@@ -1,17 +1,17 @@
 -- `rows::fill_rows` takes the sources of the set, the lowest first.
 use borrow.Author.Needs.{needs}
 use native.Mathlib.Omega.{arith}
-use Rattle.links.specs.Promise.{masked}
+use Rattle.links.specs.Promise.{maskedFrom}
 use Rattle.tables.proofs.FilledRows.{FillingRows, filling-starts, next-below, next-less, filling-goes, filling-ends}
 use Rattle.tables.proofs.rows.fill_rows.Statement.{statement}
 use Rattle.tables.proofs.rows.fill_rows.Tie as tie
 
 abbrev Inv-loop : tie.InvT-loop
-Inv-loop limit scale n set cost out time₀ ways₀ share₀ left₀ crowded₀ time ways share left crowded =
-    FillingRows limit scale (masked n cost out) n set left time₀ ways₀ share₀ time ways share crowded
+Inv-loop limit scale n set cost passing out time₀ ways₀ share₀ left₀ crowded₀ time ways share left crowded =
+    FillingRows limit scale (λ s. maskedFrom n s cost passing out) n set left time₀ ways₀ share₀ time ways share crowded
 
 abbrev μ-loop : tie.MeasureT-loop
-μ-loop limit scale n set cost out time₀ ways₀ share₀ left₀ crowded₀ time ways share left crowded = left
+μ-loop limit scale n set cost passing out time₀ ways₀ share₀ left₀ crowded₀ time ways share left crowded = left
 
 cast-s : tie.Need-cast-s Inv-loop μ-loop
 cast-s c =
@@ -25,7 +25,8 @@ fill-row-requires c κs =
 
 loop-less : tie.Need-loop-less Inv-loop μ-loop
 loop-less c =
-    let loop-test : tie.In-loop Inv-loop μ-loop = search in let loop : tie.At-loop Inv-loop μ-loop = search in let start : tie.Start Inv-loop μ-loop = search in
+    let loop-test : tie.In-loop Inv-loop μ-loop = search in let loop : tie.At-loop Inv-loop μ-loop = search in
+    let start : tie.Start Inv-loop μ-loop = search in
     next-less _ _ _ _ _ _ _ _ (loop .loop .inv) (omega (arith, loop-test .loop-test .taken)) (start .pre .1 .1 .1)
 
 loop-again : tie.Need-loop-again Inv-loop μ-loop

@@ -5,10 +5,10 @@ use Rattle.trials.proofs.draft.list.Statement.{statement}
 use Rattle.trials.proofs.draft.list.Tie as tie
 
 abbrev Inv-loop : tie.InvT-loop
-Inv-loop seed₀ stops first plan draft₀ i₀ i-end seed draft i = Unit {0}
+Inv-loop seed₀ stops first p plan draft₀ i₀ i-end seed draft i = Unit {0}
 
 abbrev μ-loop : tie.MeasureT-loop
-μ-loop seed₀ stops first plan draft₀ i₀ i-end seed draft i = i-end - i
+μ-loop seed₀ stops first p plan draft₀ i₀ i-end seed draft i = i-end - i
 
 pub list-spec : {M : Type 1} → statement M
 list-spec =

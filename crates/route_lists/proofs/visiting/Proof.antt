@@ -1,11 +1,11 @@
--- `passing` adds the times in 64 bits.
+-- `visiting` adds the times in 64 bits.
 use Prim.Native.Nat.{_+_}
 use native.Mathlib.Nat.{mul-le-mul}
 use native.Mathlib.Omega.{arith}
 use borrow.Author.Tests.{eq-eqb, ne-eqb}
 use borrow.Author.Needs.{needs}
-use Rattle.route_lists.proofs.passing.Statement.{statement}
-use Rattle.route_lists.proofs.passing.Tie as tie
+use Rattle.route_lists.proofs.visiting.Statement.{statement}
+use Rattle.route_lists.proofs.visiting.Tie as tie
 
 returns : tie.Need-returns
 returns c =
@@ -22,12 +22,14 @@ returns-2 c =
 mul-result : tie.Need-mul-result
 mul-result c =
     let start : tie.Start = search in
-    record { fits = omega (arith, mul-le-mul (start .pre .0) (start .pre .1)) }
+    let (_, coming, going) = start .pre in
+    record { fits = omega (arith, mul-le-mul coming going) }
 
 cast-result : tie.Need-cast-result
 cast-result c =
     let start : tie.Start = search in
-    record { fits = omega (arith, mul-le-mul (start .pre .0) (start .pre .1)) }
+    let (_, coming, going) = start .pre in
+    record { fits = omega (arith, mul-le-mul coming going) }
 
-pub passing-spec : {M : Type 1} → statement M
-passing-spec = tie.close (tie.spec (λ c. search needs) returns mul-result cast-result returns-2)
+pub visiting-spec : {M : Type 1} → statement M
+visiting-spec = tie.close (tie.spec (λ c. search needs) returns mul-result cast-result returns-2)
