@@ -1,45 +1,60 @@
-// Work out, audit and edit of an older library beside those of this one, in one process and on the same halls, by the functions of
-// calls.c with `old_` and `new_` before their names. Times are the least of many runs, taken in turn; for each hall a line with the
-// times of both, and whether the tables agree. Passing times are 0, as in an older library that is lent none. One with another scale has
-// its tables moved over before they are compared.
+// Work out, audit, image read and edit of an older library beside those of this one, in one process and on the same halls, by the
+// functions of calls.c with `old_` and `new_` before their names. Times are the least of many runs, taken in turn; for each hall a line
+// with the times of both, and whether the tables agree. Passing times are 0, as in an older library that is lent none. One with another
+// scale has its tables moved over before they are compared.
 #include "calls.h"
 #include "halls.h"
 
 using Scale = uint64_t();
 using Whole = uint32_t(lent_tables);
+using Read = uint32_t(lent_tables, const uint8_t *image, size_t length);
 using Insert = uint32_t(lent_tables, uint64_t from, uint64_t to, uint64_t c);
 using Delete = uint32_t(lent_tables, uint64_t from, uint64_t to);
 
 extern "C" {
 Scale old_call_scale, new_call_scale;
 Whole old_call_work_out, old_call_audit, new_call_work_out, new_call_audit;
+Read old_call_image_read, new_call_image_read;
 Insert old_call_insert, new_call_insert;
 Delete old_call_delete, new_call_delete;
 decltype(hall_move_over) new_hall_move_over;
+decltype(hall_image_write) new_hall_image_write;
 }
 
 // One library's calls.
 struct Calls {
     Whole *work_out, *audit;
+    Read *image_read;
     Insert *insert;
     Delete *remove;
 };
 
-static const Calls OLD = {old_call_work_out, old_call_audit, old_call_insert, old_call_delete};
-static const Calls NEW = {new_call_work_out, new_call_audit, new_call_insert, new_call_delete};
+static const Calls OLD = {old_call_work_out, old_call_audit, old_call_image_read, old_call_insert, old_call_delete};
+static const Calls NEW = {new_call_work_out, new_call_audit, new_call_image_read, new_call_insert, new_call_delete};
 
 static lent_tables lent(Hall &h) {
     return {h.n, h.cost.data(), h.passing.data(), h.time.data(), h.ways.data(), h.share.data(), h.score.data()};
 }
 
 struct Times {
-    double work_out = 1e300, audit = 1e300, edits = 0;
+    double work_out = 1e300, audit = 1e300, read = 1e300, edits = 0;
 };
 
-static void whole(const Calls &calls, Hall &h, Times &best) {
+// The image is that of the hall. Says whether its read was accepted.
+static bool whole(const Calls &calls, Hall &h, const std::vector<uint8_t> &image, Times &best) {
     lent_tables t = lent(h);
+    uint32_t read = HALL_NO_KIND;
     best.work_out = std::min(best.work_out, least_time(20, [&] { calls.work_out(t); }));
     best.audit = std::min(best.audit, least_time(20, [&] { calls.audit(t); }));
+    best.read = std::min(best.read, least_time(20, [&] { read = calls.image_read(t, image.data(), image.size()); }));
+    return read == HALL_ACCEPTED;
+}
+
+static std::vector<uint8_t> image_of(Hall &h) {
+    std::vector<uint8_t> image(HALL_LONGEST_IMAGE);
+    hall_tables t = h.tables();
+    image.resize(new_hall_image_write(t.n, HALL_TABLES(t), image.data(), image.size()).length);
+    return image;
 }
 
 static bool same_tables(const Hall &a, const Hall &b) {
@@ -84,17 +99,16 @@ static bool moved(Hall &h) {
 static int measure(const std::string &name, Hall h, std::mt19937 &random) {
     Hall other = h;
     if (NEW.work_out(lent(h)) != HALL_ACCEPTED || OLD.work_out(lent(other)) != HALL_ACCEPTED) return 1;
+    const std::vector<uint8_t> image = image_of(h);
     Times old, now;
-    for (int round = 0; round < 50; round++) {
-        whole(OLD, h, old);
-        whole(NEW, h, now);
-    }
+    bool same = true;
+    for (int round = 0; round < 50; round++) same = whole(OLD, h, image, old) && whole(NEW, h, image, now) && same;
     std::vector<Link> links = links_of(h);
     std::shuffle(links.begin(), links.end(), random);
     if (links.size() > 32) links.resize(32);
-    bool same = edits(other, h, links, old, now) && moved(other) && same_tables(h, other);
-    std::printf("%s, %zu links;%.2f;%.2f;%.2f;%.2f;%.2f;%.2f;%s\n", name.c_str(), links_of(h).size(), old.work_out, now.work_out,
-                old.audit, now.audit, old.edits, now.edits, same ? "agree" : "DIFFER");
+    same = edits(other, h, links, old, now) && moved(other) && same_tables(h, other) && same;
+    std::printf("%s, %zu links;%.2f;%.2f;%.2f;%.2f;%.2f;%.2f;%.2f;%.2f;%s\n", name.c_str(), links_of(h).size(), old.work_out,
+                now.work_out, old.audit, now.audit, old.read, now.read, old.edits, now.edits, same ? "agree" : "DIFFER");
     return same ? 0 : 1;
 }
 

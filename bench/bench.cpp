@@ -1,11 +1,12 @@
 // Work out, audit and edit of the proved library beside Boost's and igraph's betweenness, in one process and on the same
 // graphs; a raise beside the delete and the insert that said the same before there was one; a list of eight edits beside the same
 // eight one by one; and the moving call on the same hall by the old numbers. Behind them work out, audit and edit of the same halls with
-// passing times beside those without, and a list of routes beside an audit of the same hall, and beside igraph's. Times are the least of
-// many runs, taken in turn; ratios are theirs, or those of the two edits, divided by ours, for lists the list divided by the single
-// edits, for the moving call its time divided by that of an audit and of a work out, for passing times the time with them divided by that
-// without, and for a list of routes its time, with the audit that it makes, divided by that of an audit. Boost and igraph know no passing
-// times; they are in the weights of their links (`weight`, halls.h).
+// passing times beside those without, a list of routes beside an audit of the same hall, and beside igraph's, and halls with crowded
+// pairs, whose scores are counted here, since Boost and igraph leave no pair out. Times are the least of many runs, taken in turn; ratios
+// are theirs, or those of the two edits, divided by ours, for lists the list divided by the single edits, for the moving call its time
+// divided by that of an audit and of a work out, for passing times the time with them divided by that without, and for a list of routes
+// its time, with the audit that it makes, divided by that of an audit. Boost and igraph know no passing times; they are in the weights of
+// their links (`weight`, halls.h).
 #include "halls.h"
 
 #include <boost/graph/adjacency_list.hpp>
@@ -13,6 +14,7 @@
 #include <igraph/igraph.h>
 
 #include <cmath>
+#include <cstdlib>
 
 struct Boost {
     typedef boost::adjacency_list<boost::vecS, boost::vecS, boost::directedS, boost::no_property,
@@ -81,11 +83,12 @@ static bool agrees(const Hall &h, const std::function<double(size_t)> &theirs) {
     return true;
 }
 
-// Runs both, and says whether their scores are ours.
+// Runs both, and says whether their scores are ours. They count every pair, so no pair may be crowded.
 static bool agrees(const Hall &h, Boost &boost, Igraph &igraph) {
     boost.run();
     igraph.run();
-    return agrees(h, [&](size_t v) { return boost.scores[v]; }) && agrees(h, [&](size_t v) { return VECTOR(igraph.scores)[v]; });
+    bool open = *std::max_element(h.ways.begin(), h.ways.end()) <= HALL_WAYS;
+    return open && agrees(h, [&](size_t v) { return boost.scores[v]; }) && agrees(h, [&](size_t v) { return VECTOR(igraph.scores)[v]; });
 }
 
 static size_t useful_links(const Hall &h) {
@@ -94,11 +97,15 @@ static size_t useful_links(const Hall &h) {
     return useful;
 }
 
-// Makes an edit, keeps its least time so far, and says whether it was accepted.
-static bool timed(double &least, const std::function<hall_edited()> &edit) {
-    hall_edited e = {};
-    least = std::min(least, time_of([&] { e = edit(); }));
-    return e.refusal == HALL_ACCEPTED;
+// Makes an edit or a list, which must be accepted, keeps its least time so far, and gives its answer.
+template <typename Edit> static auto timed(double &least, const Edit &edit) {
+    decltype(edit()) answer = {};
+    least = std::min(least, time_of([&] { answer = edit(); }));
+    if (answer.refusal != HALL_ACCEPTED) {
+        std::printf("an edit was refused with %u\n", answer.refusal);
+        std::exit(1);
+    }
+    return answer;
 }
 
 // Microseconds of an edit with its audit, and the rows that it touches.
@@ -106,24 +113,20 @@ struct Edits {
     double edit = 0, rows = 0;
 };
 
-// Means over the links. Each is deleted and inserted again; both count with their least times of ten rounds. A link whose delete
-// would make too many ways is left out.
+// Means over the links. Each is deleted and inserted again; both count with their least times of ten rounds.
 static Edits edits(Hall &h, const std::vector<Link> &links) {
     Edits sum;
-    uint64_t count = 0;
     for (const Link &l : links) {
         double gone = 1e300, back = 1e300;
         hall_edited out = {}, in = {};
-        bool taken = true;
-        for (int round = 0; taken && round < 10; round++)
-            taken = timed(gone, [&] { return out = h.remove(l.from, l.to); }) &&
-                    timed(back, [&] { return in = h.insert(l.from, l.to, l.cost); });
-        if (!taken) continue;
-        sum.edit += gone + back;
-        sum.rows += out.rows + in.rows;
-        count += 2;
+        for (int round = 0; round < 10; round++) {
+            out = timed(gone, [&] { return h.remove(l.from, l.to); });
+            in = timed(back, [&] { return h.insert(l.from, l.to, l.cost); });
+        }
+        sum.edit += (gone + back) / (2 * links.size());
+        sum.rows += double(out.rows + in.rows) / (2 * links.size());
     }
-    return count ? Edits{sum.edit / count, sum.rows / count} : Edits{};
+    return sum;
 }
 
 // Microseconds of a raise, and of the delete and the insert that say the same in two edits.
@@ -132,20 +135,22 @@ struct Slower {
 };
 
 // Means over the links. Each is raised by half, at once and in two edits, and cheapened back after both; it counts with its least
-// times of ten rounds. A link with the largest cost is left out, and one whose raise or delete would make too many ways.
+// times of ten rounds. A link with the largest cost is left out.
 static Slower slower(Hall &h, const std::vector<Link> &links) {
     Slower sum;
     uint64_t count = 0;
     for (const Link &l : links) {
+        if (l.cost == HALL_LARGEST_COST) continue;
         uint64_t c = std::min<uint64_t>(l.cost + l.cost / 2 + 1, HALL_LARGEST_COST);
         double raise = 1e300, gone = 1e300, back = 1e300, unused = 1e300;
         auto restore = [&] { return h.cheapen(l.from, l.to, l.cost); };
-        bool taken = true;
-        for (int round = 0; taken && round < 10; round++)
-            taken = timed(raise, [&] { return h.raise(l.from, l.to, c); }) && timed(unused, restore) &&
-                    timed(gone, [&] { return h.remove(l.from, l.to); }) &&
-                    timed(back, [&] { return h.insert(l.from, l.to, c); }) && timed(unused, restore);
-        if (!taken) continue;
+        for (int round = 0; round < 10; round++) {
+            timed(raise, [&] { return h.raise(l.from, l.to, c); });
+            timed(unused, restore);
+            timed(gone, [&] { return h.remove(l.from, l.to); });
+            timed(back, [&] { return h.insert(l.from, l.to, c); });
+            timed(unused, restore);
+        }
         sum.raise += raise;
         sum.two += gone + back;
         count++;
@@ -159,8 +164,7 @@ struct Lists {
 };
 
 // Means over the links by eights. Eight are deleted and inserted again, the last one first, so that the halls on the way back are
-// those on the way out, as two lists and one by one; each counts with its least time of ten rounds. Eights of which a delete is
-// refused are left out.
+// those on the way out, as two lists and one by one; each counts with its least time of ten rounds.
 static Lists lists(Hall &h, const std::vector<Link> &links) {
     Lists sum;
     uint64_t count = 0;
@@ -172,17 +176,12 @@ static Lists lists(Hall &h, const std::vector<Link> &links) {
         }
         double list[2] = {1e300, 1e300}, single[16];
         std::fill(single, single + 16, 1e300);
-        bool taken = true;
-        for (int round = 0; taken && round < 10; round++) {
-            hall_listed a = {}, b = {};
-            list[0] = std::min(list[0], time_of([&] { a = h.edit_list(out); }));
-            if (!(taken = a.refusal == HALL_ACCEPTED)) break;
-            list[1] = std::min(list[1], time_of([&] { b = h.edit_list(in); }));
-            taken = b.refusal == HALL_ACCEPTED;
-            for (size_t i = 0; taken && i < 8; i++) taken = timed(single[i], [&] { return h.remove(out[i].from, out[i].to); });
-            for (size_t i = 0; taken && i < 8; i++) taken = timed(single[8 + i], [&] { return h.insert(in[i].from, in[i].to, in[i].c); });
+        for (int round = 0; round < 10; round++) {
+            timed(list[0], [&] { return h.edit_list(out); });
+            timed(list[1], [&] { return h.edit_list(in); });
+            for (size_t i = 0; i < 8; i++) timed(single[i], [&] { return h.remove(out[i].from, out[i].to); });
+            for (size_t i = 0; i < 8; i++) timed(single[8 + i], [&] { return h.insert(in[i].from, in[i].to, in[i].c); });
         }
-        if (!taken) continue;
         sum.list += list[0] + list[1];
         for (double t : single) sum.single += t;
         count += 2;
@@ -264,18 +263,13 @@ static void whole(Hall &h, Times &best) {
     best.audit = std::min(best.audit, least_time(50, [&] { h.audit(); }));
 }
 
-// Means over the links, each in turn in both halls. A link that one of them does not let go is left out in both.
+// Means over the links, each in turn in both halls.
 static void edits_of_both(Hall &a, Hall &b, const std::vector<Link> &links, Edits &of_a, Edits &of_b) {
-    uint64_t count = 0;
     for (const Link &l : links) {
         Edits in_a = edits(a, {l}), in_b = edits(b, {l});
-        if (in_a.edit == 0 || in_b.edit == 0) continue;
-        of_a = {of_a.edit + in_a.edit, of_a.rows + in_a.rows};
-        of_b = {of_b.edit + in_b.edit, of_b.rows + in_b.rows};
-        count++;
+        of_a = {of_a.edit + in_a.edit / links.size(), of_a.rows + in_a.rows / links.size()};
+        of_b = {of_b.edit + in_b.edit / links.size(), of_b.rows + in_b.rows / links.size()};
     }
-    for (Edits *sum : {&of_a, &of_b})
-        if (count) *sum = {sum->edit / count, sum->rows / count};
 }
 
 // A hall and the one with the same links and passing times. Other routes are quickest there, so the times differ by the hall too.
@@ -305,6 +299,58 @@ static int measure_passing(const std::string &name, Hall bare, Hall passed, std:
                 without.edits.edit, without.edits.rows, with.work_out, with.audit, with.edits.edit, with.edits.rows,
                 with.work_out / without.work_out, with.audit / without.audit, with.edits.edit / without.edits.edit,
                 theirs / with.work_out, same ? "agree" : "DIFFER");
+    return same ? 0 : 1;
+}
+
+// The number of quickest routes of each pair, counted along the times of a hall without passing times, as far as a double counts.
+static std::vector<double> all_ways(const Hall &h) {
+    std::vector<double> ways(h.n * h.n);
+    std::vector<Link> links = links_of(h);
+    for (uint64_t s = 0; s < h.n; s++) {
+        const uint32_t *time = &h.time[s * h.n];
+        std::sort(links.begin(), links.end(), [&](const Link &a, const Link &b) { return time[a.from] < time[b.from]; });
+        ways[s * h.n + s] = 1;
+        for (const Link &l : links)
+            if (time[l.from] != HALL_MARK && time[l.from] + l.cost == time[l.to]) ways[s * h.n + l.to] += ways[s * h.n + l.from];
+    }
+    return ways;
+}
+
+// Whether the ways and scores are those of the pairs with at most 12 ways; says how many pairs have more.
+static bool counts(const Hall &h, size_t &crowded) {
+    const std::vector<double> ways = all_ways(h);
+    std::vector<double> scores(h.n);
+    bool same = true;
+    crowded = 0;
+    for (uint64_t s = 0; s < h.n; s++)
+        for (uint64_t t = 0; t < h.n; t++) {
+            const double here = ways[s * h.n + t];
+            same = same && h.ways[s * h.n + t] == std::min<double>(here, HALL_CROWDED_WAYS);
+            crowded += here > HALL_WAYS;
+            if (here == 0 || here > HALL_WAYS) continue;
+            for (uint64_t v = 0; v < h.n; v++)
+                if (v != s && v != t && uint64_t(h.time[s * h.n + v]) + h.time[v * h.n + t] == h.time[s * h.n + t])
+                    scores[v] += ways[s * h.n + v] * ways[v * h.n + t] / here;
+        }
+    return same && agrees(h, [&](size_t v) { return scores[v]; });
+}
+
+// A hall with crowded pairs. Boost counts them too, so its scores are others.
+static int measure_crowded(const std::string &name, Hall h, std::mt19937 &random) {
+    size_t crowded = 0;
+    bool same = h.work_out() == HALL_ACCEPTED && counts(h, crowded);
+    const Hall anew = h;
+    Boost boost(h);
+    Times best;
+    double theirs = 1e300;
+    for (int round = 0; round < 20; round++) {
+        whole(h, best);
+        theirs = std::min(theirs, least_time(10, [&] { boost.run(); }));
+    }
+    best.edits = edits(h, some_links(h, random));
+    same = same && h.cost == anew.cost && h.ways == anew.ways && h.score == anew.score && h.audit() == HALL_ACCEPTED;
+    std::printf("%-28s %5zu %6zu %7zu | %8.1f %8.1f %8.1f %5.1f | %6.2f | %s\n", name.c_str(), links_of(h).size(), useful_links(h), crowded,
+                best.work_out, best.audit, best.edits.edit, best.edits.rows, theirs / best.work_out, same ? "agree" : "DIFFER");
     return same ? 0 : 1;
 }
 
@@ -395,5 +441,11 @@ int main(int argc, char **argv) {
     bad += measure_list("12 ways at its end", twelve_ways(64, 56));
     bad += measure_list("at its beginning, all links", all_links(twelve_ways(64, 0)));
     bad += measure_list("at its beginning, passing", twelve_ways(64, 0, 1));
+
+    std::printf("\n%-28s %5s %6s %7s | %8s %8s %8s %5s | %6s |\n", "with crowded pairs", "links", "useful", "crowded", "work out", "audit",
+                "edit", "rows", "Boost");
+    std::printf("%-28s %5s %6s %7s | %8s %8s %8s %5s | %6s |\n", "", "", "", "pairs", "us", "us", "us", "", "/ w.o.");
+    bad += measure_crowded("8 x 8 grid, all costs 1", even_grid(8), random);
+    bad += measure_crowded("64 stops, ways that double", doubling(64), random);
     return bad ? 1 : 0;
 }

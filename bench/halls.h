@@ -135,6 +135,22 @@ inline Hall with_passing(Hall h, uint32_t most, std::mt19937 &random) {
     return h;
 }
 
+// A two-way grid in which all links cost 1: far stops have more ways than are counted.
+inline Hall even_grid(uint64_t side) {
+    std::mt19937 unused;
+    Hall h = grid(side, unused);
+    for (uint32_t &cost : h.cost) cost = std::min<uint32_t>(cost, 1);
+    return h;
+}
+
+// Links from each stop to all later ones, as slow as they are long, so that the ways double from stop to stop.
+inline Hall doubling(uint64_t n) {
+    Hall h(n);
+    for (uint64_t u = 0; u < n; u++)
+        for (uint64_t v = u + 1; v < n; v++) h.cost[u * n + v] = v - u;
+    return h;
+}
+
 inline Hall line(uint64_t n) {
     Hall h(n);
     for (uint64_t u = 0; u + 1 < n; u++) h.cost[u * n + u + 1] = 1;

@@ -1,6 +1,6 @@
 /* A small hall from a C host: built, edited, scored, its routes listed, written as an image and read back, with refusals shown, edits
- * reversed and a shift changed in one go; then one whose racks take time at a junction, one that an older release left, moved over, and
- * a line of 64 stops. What it prints stands in example.out. */
+ * reversed and a shift changed in one go; then one whose racks take time at a junction, one in which a shut link leaves too many ways to
+ * list, one that an older release left, moved over, and a line of 64 stops. What it prints stands in example.out. */
 #include "hall.h"
 
 #include <inttypes.h>
@@ -23,9 +23,10 @@ static const char *words(uint32_t refusal)
     case HALL_COST_WRONG_SIDE: return "the new cost is on the wrong side of the present one";
     case HALL_BAD_IMAGE: return "not an image of this hall";
     case HALL_SHORT_BUFFER: return "the buffer is too short";
-    case HALL_TOO_MANY_WAYS: return "a pair would have too many ways";
+    case HALL_TOO_MANY_WAYS: return "a pair has too many ways to move over";
     case HALL_LIST_TOO_LONG: return "the list is too long";
     case HALL_BAD_PASSING: return "a passing time is too long";
+    case HALL_CROWDED_PAIR: return "the pair has too many ways to list";
     case HALL_NO_KIND: return "no such kind of edit";
     }
     return "not a refusal";
@@ -373,6 +374,55 @@ static int weighed_racks(void)
     return same && refusal == HALL_ACCEPTED;
 }
 
+/* What a screen shows of the way from 0 to 1, and of stop 2, which is on it. */
+static void print_pair(const hall_tables *t)
+{
+    uint8_t list[HALL_LONGEST_ROUTE_LIST];
+    hall_written w = list_routes(t, 0, 1, list, sizeof list);
+
+    if (t->ways[1] == HALL_CROWDED_WAYS)
+        printf("0 to 1: time %" PRIu32 ", more than %" PRIu32 " ways: not listed, in no score\n", t->time[1], HALL_WAYS);
+    else
+        printf("0 to 1: time %" PRIu32 ", %" PRIu32 " ways\n", t->time[1], t->ways[1]);
+    printf("stop 2: score %" PRIu64 "\n", t->score[2]);
+    printf("routes 0 1: %" PRIu32 " %s, %" PRIu64 " bytes\n", w.refusal, words(w.refusal), w.length);
+}
+
+/* A belt from 0 to 1 that takes 9, and 13 ways that take 10, over a stop each. The belt is shut, which no call refuses: the pair is
+ * crowded. Once one of the 13 is shut too, the other 12 count and are listed. Then both edits are reversed. Says whether the tables of
+ * the crowded pair pass the audit, and those of before are there again. */
+static int shut_belt(void)
+{
+    hall_tables hall = make_tables(15), before;
+    hall_edited belt, way;
+    uint32_t refusal;
+    uint64_t v;
+    int same;
+
+    empty(&hall);
+    insert(&hall, 0, 1, 9);
+    for (v = 2; v < hall.n; v++) {
+        insert(&hall, 0, v, 5);
+        insert(&hall, v, 1, 5);
+    }
+    before = copy_of(hall);
+    belt = delete_link(&hall, 0, 1);
+    print_edit("delete 0 1", belt);
+    print_pair(&hall);
+    refusal = audit(&hall);
+    print_call("audit", refusal);
+    way = delete_link(&hall, 14, 1);
+    print_edit("delete 14 1", way);
+    print_pair(&hall);
+    print_edit("reversed", reverse(&hall, DELETE, 14, 1, way));
+    print_edit("reversed", reverse(&hall, DELETE, 0, 1, belt));
+    same = same_tables(before, hall);
+    printf("after that: %s\n", same ? "same tables" : "OTHER TABLES");
+    free_tables(before);
+    free_tables(hall);
+    return same && refusal == HALL_ACCEPTED;
+}
+
 /* The tables that an older release left of the first hall before its first cheapen: two ways from 0 to 3. Shares and scores are by the
  * old scale, half of 232,792,560 for the stop between. It had no passing times: they start with 0. */
 static hall_tables old_tables(void)
@@ -429,7 +479,7 @@ static int long_line(void)
 
 int main(void)
 {
-    int small = small_hall(), weighed = weighed_racks(), moved = moved_hall(), line = long_line();
+    int small = small_hall(), weighed = weighed_racks(), shut = shut_belt(), moved = moved_hall(), line = long_line();
 
-    return small && weighed && moved && line ? 0 : 1;
+    return small && weighed && shut && moved && line ? 0 : 1;
 }

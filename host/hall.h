@@ -8,8 +8,9 @@
  * between them, each with a cost (its travel time) from 1 to 65,535. Each stop
  * has a passing time from 0 to 65,535, which a route spends there on its way. A
  * stop's score is its share of the quickest routes between all other stops,
- * times HALL_SCALE, which makes it a whole number. No score passes 108,274,320,
- * so that it fits 32 bits. The calls below fill five tables of a hall, keep them
+ * times HALL_SCALE, which makes it a whole number; a pair of stops with more than
+ * 12 quickest routes is crowded and left out. No score passes 108,274,320, so
+ * that it fits 32 bits. The calls below fill five tables of a hall, keep them
  * right through edits of its links, list the quickest routes between two stops,
  * and turn the links into bytes, an image, and back. One call moves tables of
  * an older scale over to this one.
@@ -26,10 +27,9 @@
  * variables, no unwind tables and no debug data; it starts nothing, calls
  * nothing back and leaves errno alone.
  *
- * A call needs at most HALL_STACK bytes of stack, 96 KiB. Measured: image read
- * 83 KiB, work out 67 KiB, a list of routes 25 KiB, a list of edits 5 KiB, all
- * others below 4 KiB; the rest is a margin, for the dynamic linker at the first
- * call among others.
+ * A call needs at most HALL_STACK bytes of stack, 40 KiB. Measured: a list of
+ * routes 25 KiB, a list of edits 5 KiB, all others below 4 KiB; the rest is a
+ * margin, for the dynamic linker at the first call among others.
  *
  * The library is proved; that this header fits it is not. `make -C host check`
  * tries it. The two go together: compile a host anew for another release of
@@ -47,9 +47,11 @@
  *   passing  n,     32 bits   passing time of v
  *   time     n x n, 32 bits   least time s to t at s * n + t, at most
  *                             8,191,875, HALL_MARK where there is no route
- *   ways     n x n, 32 bits   number of quickest routes s to t
+ *   ways     n x n, 32 bits   number of quickest routes s to t,
+ *                             HALL_CROWDED_WAYS where there are more than 12
  *   share    n x n, 64 bits   share of v in the quickest routes from s, at
- *                             s * n + v, times HALL_SCALE
+ *                             s * n + v, times HALL_SCALE, crowded pairs left
+ *                             out
  *   score    n,     64 bits   score of v: its shares added up over all sources
  *
  * The five tables are all of these but the passing times, which no call writes.
@@ -69,6 +71,38 @@
  * same time, and so may calls that only read the tables they share. While a
  * call may write a table, no other call may use it; while a call may read one,
  * the host may not write it.
+ *
+ *
+ * CROWDED PAIRS
+ *
+ * A pair s, t is crowded if it has more than 12 quickest routes from s to t; with
+ * exactly 12 it is not. Of a crowded pair
+ *
+ * - the time is the least time, as of every pair;
+ * - the entry in the ways table is HALL_CROWDED_WAYS, 13, however many ways it
+ *   has: it says 'more than 12' and is no number of routes;
+ * - nothing is added to the shares from s, and so nothing to a score.
+ *
+ * No work out, image read, edit or list of edits is refused for it. So a link
+ * that is shut on the track can always be deleted. Audit passes right tables with
+ * crowded pairs; it answers 3 for another entry in the place of 13, such as a
+ * true number of 14, and for shares to which such a pair has added. Two calls
+ * refuse: hall_list_routes answers 14 for a crowded pair, and hall_move_over 11
+ * for an old hall with a pair of 13 to 22 ways.
+ *
+ * A screen should show a crowded pair as one that has more than 12 ways, whose
+ * routes are not listed, and which the scores leave out:
+ *
+ *   if (t.ways[from * t.n + to] == HALL_CROWDED_WAYS)
+ *       show("more than 12 ways: not listed, in no score");
+ *
+ * A stop between its ends gets nothing for it, so that its score can fall though
+ * it carries no less than before. Once an edit leaves the pair 12 ways or fewer,
+ * it counts again.
+ *
+ * Tables of a release with this scale that refused such halls have no crowded
+ * pair, and go on as they are. Such a release answers 3 for tables with one, and
+ * 11 for the image of its hall.
  *
  *
  * PASSING TIMES
@@ -91,13 +125,13 @@
  *    still those of the former passing times.
  *
  * So to change the passing times of a running hall, set the table and call
- * hall_work_out with the present costs. It can refuse with 11, as the routes
- * that are quickest then can be too many.
+ * hall_work_out with the present costs. It refuses a passing time above 65,535,
+ * with 13, and no other; the routes that are quickest then may crowd a pair.
  *
  * If the table is changed at another time, the five tables need not be those of
  * their hall any more: each call that looks at them (audit, the edits, a list of
  * edits, a list of routes, image write) answers 3 wherever the change makes
- * another time, number of ways, share or score, and 13 for a time above 65,535.
+ * another entry of times, ways, shares or scores, and 13 for a time above 65,535.
  * Where the change makes none of these, nothing is found and nothing is wrong:
  * the tables are also those of the other passing times.
  *
@@ -112,10 +146,10 @@
  * REFUSED CALLS, AND CALLS THAT ARE CUT SHORT
  *
  * A call that refuses has changed nothing that it was lent, once it returns.
- * While it runs, this does not hold: work out, image read, the edits and a list
- * of edits write rows before they know that they must refuse, and then put back
- * what was there. A signal handler, another thread or a process that shares the
- * memory can see that.
+ * While a list of edits runs, this does not hold: its first edits are made before
+ * it is known that a later one is refused, and then put back. A signal handler,
+ * another thread or a process that shares the memory can see that. All other
+ * calls have made their tests before they write.
  *
  * A host that is killed inside a call can leave tables (in shared memory or a
  * mapped file) that are half written. hall_audit answers 3 for tables that do
@@ -133,8 +167,9 @@
  *
  * Every call answers a refusal, 0 for accepted. Each call lists those that it
  * knows, in the order in which it tests them; the first that applies is the
- * answer. That order is rising, but that 13 is tested directly after 2, and a
- * list for 12 before its edits are. The names are those of hall_refusal below.
+ * answer. That order is rising, but that 13 is tested directly after 2, a list
+ * of edits for 12 before its edits are, and a list of routes for 14 before 10.
+ * The names are those of hall_refusal below.
  *
  *    0  HALL_ACCEPTED
  *    1  HALL_BAD_SIZE         n is 0 or above 64
@@ -157,12 +192,14 @@
  *    9  HALL_BAD_IMAGE        the bytes are no image of a hall of n stops
  *   10  HALL_SHORT_BUFFER     the buffer is too short for the image or for the
  *                             list of routes
- *   11  HALL_TOO_MANY_WAYS    the hall would have a pair with more than 12
- *                             ways; in hall_move_over, it has one
+ *   11  HALL_TOO_MANY_WAYS    in hall_move_over alone: the old hall has a pair
+ *                             with more than 12 ways
  *   12  HALL_LIST_TOO_LONG    a list has more than 32 edits
  *   13  HALL_BAD_PASSING      a passing time is above 65,535; tested directly
  *                             after 2, in every call on the tables but
  *                             hall_move_over
+ *   14  HALL_CROWDED_PAIR     in hall_list_routes alone: the pair has more than
+ *                             12 ways; tested directly after 4
  *
  * One answer stands for a call that is not made, since it was given no list of
  * edits. It comes before all refusals, 1 included:
@@ -176,8 +213,9 @@
  * Older releases allowed 22 ways and had the scale 232,792,560: HALL_OLD_WAYS
  * and HALL_OLD_SCALE, which is 8,398 times HALL_SCALE. They had no passing
  * times. The tables have the same widths, costs, times and ways as now with
- * passing times of 0; each share and score is 8,398 times as large.
- * hall_move_over divides them in place, so a hall need not stop:
+ * passing times of 0, where no pair has more than 12 ways; each share and score
+ * is 8,398 times as large. hall_move_over divides them in place, so a hall need
+ * not stop:
  *
  * 1. The tables lie in the host's memory. Let them lie there, as the last call
  *    of the old library left them.
@@ -193,8 +231,10 @@
  * share is 0, old and new tables are the same: with passing times of 0 all calls
  * take them, and moving changes nothing.
  *
- * Refused with 11: go on with the old library, which can still edit the hall.
- * Once no entry of the ways table is above 12, move again.
+ * Refused with 11: some pair has 13 to 22 ways. Go on with the old library, which
+ * can still edit the hall, and once no entry of the ways table is above 12, move
+ * again. Or do without the shares of these pairs: hall_work_out takes the cost
+ * table, with passing times of 0, and leaves them crowded.
  *
  * Refused with 3: the tables are not those of the old numbers. If hall_audit
  * answers 0 with the passing times in use, they have been moved already. Else
@@ -205,7 +245,7 @@
  *
  * Once moved, every share and score fits 32 bits, though the tables keep their
  * widths. An image has links only, so old images are read as before, with
- * passing times of 0; one of a hall with more than 12 ways is refused with 11.
+ * passing times of 0; a pair that had more than 12 ways is crowded then.
  */
 
 #if !defined(__x86_64__) || defined(__ILP32__) || !defined(__linux__)
@@ -223,13 +263,14 @@ extern "C" {
 #define HALL_STOPS UINT64_C(64)               /* most stops */
 #define HALL_LARGEST_COST UINT32_C(65535)     /* of a link */
 #define HALL_LARGEST_PASSING UINT32_C(65535)  /* time of a stop */
-#define HALL_WAYS UINT32_C(12)                /* most quickest routes of a pair */
+#define HALL_WAYS UINT32_C(12)                /* most of a pair that is not crowded */
+#define HALL_CROWDED_WAYS UINT32_C(13)        /* the ways entry of a crowded pair */
 #define HALL_EDITS UINT64_C(32)               /* most edits of a list */
 #define HALL_MARK UINT32_C(4294967295)        /* the time where there is no route */
 #define HALL_SCALE UINT64_C(27720)            /* one route, in a share or a score */
 #define HALL_LONGEST_IMAGE UINT64_C(16136)    /* bytes: 8, and 4 for each link */
 #define HALL_LONGEST_ROUTE_LIST UINT64_C(781) /* bytes: 1, and 65 for each route */
-#define HALL_STACK UINT64_C(98304)            /* bytes of stack for any call */
+#define HALL_STACK UINT64_C(40960)            /* bytes of stack for any call */
 
 /* The old numbers, for hall_move_over alone. */
 #define HALL_OLD_WAYS UINT32_C(22)
@@ -251,6 +292,7 @@ typedef enum {
     HALL_TOO_MANY_WAYS = 11,
     HALL_LIST_TOO_LONG = 12,
     HALL_BAD_PASSING = 13,
+    HALL_CROWDED_PAIR = 14,
     HALL_NO_KIND = 255
 } hall_refusal;
 
@@ -279,6 +321,11 @@ typedef struct {
  * last field lie 4 bytes of padding with unspecified content: compare the
  * fields, not the bytes.
  *
+ * Rows of other sources, in times, ways and shares, are as they were. The row of
+ * a touched source has changed if no pair was crowded before and none is after;
+ * else it may look the same, since the routes of a crowded pair count as touched
+ * and show in no entry.
+ *
  * To reverse an accepted edit, call on the tables that it left, with the same
  * n, the same passing times and the same stops:
  *
@@ -287,8 +334,8 @@ typedef struct {
  *   after hall_raise     hall_cheapen, with `before` as the cost
  *   after hall_delete    hall_insert, with `before` as the cost
  *
- * Such a call is never refused, not even with 11. It touches the same sources
- * and leaves all five tables as they were before the edit. */
+ * Such a call is never refused. It touches the same sources and leaves all five
+ * tables as they were before the edit, whether or not pairs are crowded. */
 typedef struct {
     uint32_t refusal;
     uint32_t rows;
@@ -301,8 +348,8 @@ typedef struct {
  * HALL_NO_KIND that of the first edit without a kind; the set of
  * the sources that some edit touched, bit s for source s, and their number.
  * Rows of other sources are as they were; the row of a source in the set may
- * be so too, where a later edit undid an earlier one. Refused: an empty set and
- * 0 rows. Behind the last field lie 4 bytes of padding with unspecified
+ * be so too, where a later edit undid an earlier one or pairs are crowded.
+ * Refused: an empty set and 0 rows. Behind the last field lie 4 bytes of padding with unspecified
  * content: compare the fields, not the bytes. */
 typedef struct {
     uint32_t refusal;
@@ -363,7 +410,7 @@ uint32_t hall_empty(uint64_t n,
                     uint64_t *score, size_t score_length);
 
 /* Fills the other four tables from a cost table and passing times.
- * Refusals 1, 2, 13, 5, 11. */
+ * Refusals 1, 2, 13, 5. */
 uint32_t hall_work_out(uint64_t n,
                        const uint32_t *cost, size_t cost_length,
                        const uint32_t *passing, size_t passing_length,
@@ -389,8 +436,9 @@ uint32_t hall_audit(uint64_t n,
  * It is lent no passing times. It first audits the tables by the old scale, the
  * old limit of 22 ways and passing times of 0, so that it answers 3 for tables
  * that have been moved, unless every share is 0, and wherever a passing time has
- * made another time or number of ways. Refused, it has changed nothing.
- * Refusals 1, 2, 3, 11. */
+ * made another time or number of ways. The old numbers know no crowded pairs: for
+ * tables with one it answers 3, as for a pair of more than 22 ways. Refused, it
+ * has changed nothing. Refusals 1, 2, 3, 11. */
 uint32_t hall_move_over(uint64_t n,
                         const uint32_t *cost, size_t cost_length,
                         const uint32_t *time, size_t time_length,
@@ -399,10 +447,11 @@ uint32_t hall_move_over(uint64_t n,
                         uint64_t *score, size_t score_length);
 
 /* The edits audit the tables, change the cost of one link, and bring the other
- * four tables up to it. */
+ * four tables up to it. None is refused for the ways that it leaves: a pair may
+ * become crowded by it, or be so no longer. */
 
 /* Adds the link from one stop to another, with cost c.
- * Refusals 1, 2, 13, 3, 4, 5, 6, 11. */
+ * Refusals 1, 2, 13, 3, 4, 5, 6. */
 hall_edited hall_insert(uint64_t n, uint64_t from, uint64_t to, uint64_t c,
                         uint32_t *cost, size_t cost_length,
                         const uint32_t *passing, size_t passing_length,
@@ -411,7 +460,7 @@ hall_edited hall_insert(uint64_t n, uint64_t from, uint64_t to, uint64_t c,
                         uint64_t *share, size_t share_length,
                         uint64_t *score, size_t score_length);
 
-/* Gives a link the lower cost c. Refusals 1, 2, 13, 3, 4, 5, 7, 8, 11. */
+/* Gives a link the lower cost c. Refusals 1, 2, 13, 3, 4, 5, 7, 8. */
 hall_edited hall_cheapen(uint64_t n, uint64_t from, uint64_t to, uint64_t c,
                          uint32_t *cost, size_t cost_length,
                          const uint32_t *passing, size_t passing_length,
@@ -420,8 +469,7 @@ hall_edited hall_cheapen(uint64_t n, uint64_t from, uint64_t to, uint64_t c,
                          uint64_t *share, size_t share_length,
                          uint64_t *score, size_t score_length);
 
-/* Gives a link the higher cost c. Refusals 1, 2, 13, 3, 4, 5, 7, 8, 11: the
- * routes that are quickest then can be too many. */
+/* Gives a link the higher cost c. Refusals 1, 2, 13, 3, 4, 5, 7, 8. */
 hall_edited hall_raise(uint64_t n, uint64_t from, uint64_t to, uint64_t c,
                        uint32_t *cost, size_t cost_length,
                        const uint32_t *passing, size_t passing_length,
@@ -430,8 +478,8 @@ hall_edited hall_raise(uint64_t n, uint64_t from, uint64_t to, uint64_t c,
                        uint64_t *share, size_t share_length,
                        uint64_t *score, size_t score_length);
 
-/* Takes a link out. Refusals 1, 2, 13, 3, 4, 7, 11: the routes that are quickest
- * without it can be too many. */
+/* Takes a link out: on right tables, one that is there always goes.
+ * Refusals 1, 2, 13, 3, 4, 7. */
 hall_edited hall_delete(uint64_t n, uint64_t from, uint64_t to,
                         uint32_t *cost, size_t cost_length,
                         const uint32_t *passing, size_t passing_length,
@@ -443,8 +491,7 @@ hall_edited hall_delete(uint64_t n, uint64_t from, uint64_t to,
 /* A list of edits in one go, four numbers for each as in hall_edit, so that
  * list_length is 4 for each edit; one of the first 32 with fewer than four is
  * an edit without a kind. C and C++ call hall_edit_list, which hands on to it.
- * Refusals 1, 2, 13, 3, 12, and of an edit 4, 5, 6, 7, 8, 11; and
- * HALL_NO_KIND. */
+ * Refusals 1, 2, 13, 3, 12, and of an edit 4, 5, 6, 7, 8; and HALL_NO_KIND. */
 hall_listed hall_edit_numbers(uint64_t n, const uint64_t *list, size_t list_length,
                               uint32_t *cost, size_t cost_length,
                               const uint32_t *passing, size_t passing_length,
@@ -455,8 +502,8 @@ hall_listed hall_edit_numbers(uint64_t n, const uint64_t *list, size_t list_leng
 
 /* Audits the tables and makes all edits of a list, or none. They are judged in
  * turn, each in the hall that its predecessors made, by what would refuse it
- * alone; so a list may be refused with 11 because of a state on the way. The
- * tables are audited once. Refused, they are as they were, whatever the place.
+ * alone. The tables are audited once. Refused, they are as they were, whatever
+ * the place.
  * A list of no edits is accepted if the tables pass 1, 2, 13 and 3, and touches
  * none. If one of the first 32 edits has a kind that is none, the answer is
  * HALL_NO_KIND with its place, whatever the other arguments are, and nothing is
@@ -483,13 +530,14 @@ static inline hall_listed hall_edit_list(uint64_t n, const hall_edit *list, size
  * the number of its stops and the stops, a byte each, first stop first. The
  * routes stand in order of their stop numbers, compared from the front; each
  * stands there once. From a stop to itself there is one route of one stop, so
- * that the bytes are 1, 1 and the stop; without a route there is one byte, 0.
+ * that the bytes are 1, 1 and the stop; without a route there is one byte, 0. The
+ * routes of a crowded pair are not listed: the answer is 14, whatever the buffer.
  *
  * HALL_LONGEST_ROUTE_LIST bytes are enough for every list: the number, and at
  * most 12 routes of at most 64 stops, each behind a byte. (12 routes cannot all
  * pass all stops: by a search of all cases, which is no proof, the longest list
  * has 761 bytes.) A shorter buffer will do if the list fits, and in a longer one
- * the bytes past the list stay. Refusals 1, 2, 13, 3, 4, 10.
+ * the bytes past the list stay. Refusals 1, 2, 13, 3, 4, 14, 10.
  *
  * To go through a list, with t a hall_tables:
  *
@@ -529,7 +577,7 @@ hall_written hall_image_write(uint64_t n,
 
 /* Fills all five tables from an image, whose length must be the image's own
  * and not that of a longer buffer, and passing times: with those of the hall
- * that was written they are its tables. Refusals 1, 2, 13, 9, 11. */
+ * that was written they are its tables. Refusals 1, 2, 13, 9. */
 uint32_t hall_image_read(uint64_t n, const uint8_t *image, size_t image_length,
                          uint32_t *cost, size_t cost_length,
                          const uint32_t *passing, size_t passing_length,
@@ -538,8 +586,8 @@ uint32_t hall_image_read(uint64_t n, const uint8_t *image, size_t image_length,
                          uint64_t *share, size_t share_length,
                          uint64_t *score, size_t score_length);
 
-/* Whether the bytes are an image of a hall of n stops. An image that passes
- * may still be refused by the read, with 11. Refusals 1, 9.
+/* Whether the bytes are an image of a hall of n stops. The read for this n
+ * refuses an image that passes with 2 or 13 alone. Refusals 1, 9.
  *
  * NOTE the order: here n comes LAST, in every other call it comes first. The
  * compiler cannot see a length and an n that are swapped. */

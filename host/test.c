@@ -1,5 +1,6 @@
 /* What hall.h says of the archive, and no proof covers, tried: widths and layout, the name of each refusal, the order of the
- * arguments, NULL with length 0, lists of routes, passing times, old tables moved over, the longest image. Prints what does not hold. */
+ * arguments, NULL with length 0, crowded pairs, lists of routes, passing times, old tables moved over, the longest image. Prints what does
+ * not hold. */
 #include "hall.h"
 
 #include <stdio.h>
@@ -14,6 +15,7 @@ _Static_assert(sizeof HALL_OLD_SCALE == sizeof(uint64_t) && sizeof HALL_OLD_WAYS
 _Static_assert(sizeof HALL_MARK == sizeof(uint32_t) && sizeof HALL_WAYS == sizeof(uint32_t), "as wide as an entry");
 _Static_assert(sizeof HALL_LARGEST_COST == sizeof(uint32_t) && sizeof HALL_LARGEST_PASSING == sizeof(uint32_t), "as wide as an entry");
 _Static_assert(63 * HALL_LARGEST_COST + 62 * HALL_LARGEST_PASSING == 8191875 && 8191875 < HALL_MARK, "the largest time is not the mark");
+_Static_assert(HALL_CROWDED_WAYS == HALL_WAYS + 1 && sizeof HALL_CROWDED_WAYS == sizeof(uint32_t), "as wide as an entry");
 _Static_assert(HALL_LONGEST_ROUTE_LIST == 1 + HALL_WAYS * (1 + HALL_STOPS), "the number of routes, and for each its length and its stops");
 _Static_assert(HALL_WAYS <= UINT8_MAX && HALL_STOPS <= UINT8_MAX, "each of these is a byte");
 _Static_assert(sizeof HALL_LONGEST_ROUTE_LIST == sizeof(uint64_t), "as wide as a length");
@@ -117,27 +119,73 @@ static void names_fit(void)
     HOLDS(hall_audit(3, HALL_TABLES(t)) == HALL_ACCEPTED);
 }
 
-/* 12 stops between 0 and 1 make as many ways; one more is refused, and leaves what was there. Beside a quicker link there may be 13,
- * but that link cannot close, and the refused delete does not tell what it costs. */
-static void most_ways(void)
+/* `between` ways of time 10 from 0 to 1, over a stop each from 2 on, worked out. */
+static hall_tables bundle(uint64_t between)
 {
-    hall_tables t = tables_of(15);
-    uint64_t middle = 2 + HALL_WAYS;
-    hall_edited e;
+    hall_tables t = tables_of(2 + between);
 
     memset(cost, 0, sizeof cost);
-    for (uint64_t v = 2; v < middle; v++)
+    for (uint64_t v = 2; v < t.n; v++)
         cost[v] = cost[v * t.n + 1] = 5;
     HOLDS(hall_work_out(t.n, HALL_TABLES(t)) == HALL_ACCEPTED);
+    return t;
+}
+
+/* Whether the pair 0, 1 of such a hall is crowded, with no share and no score in the hall, and the tables pass the audit. */
+static int is_crowded(hall_tables t)
+{
+    int good = ways[1] == HALL_CROWDED_WAYS && time[1] == 10 && hall_audit(t.n, HALL_TABLES(t)) == HALL_ACCEPTED;
+
+    for (uint64_t i = 0; i < t.n * t.n; i++)
+        good &= share[i] == 0;
+    for (uint64_t v = 0; v < t.n; v++)
+        good &= score[v] == 0;
+    return good;
+}
+
+/* 12 ways are not too many; a 13th crowds the pair, by an insert, by a work out or by the delete of a quicker link, and so do 62. */
+static void most_ways(void)
+{
+    hall_tables t = bundle(HALL_WAYS);
+    hall_edited e;
+
     HOLDS(ways[1] == 12 && score[2] == 2310);
-    HOLDS(hall_insert(t.n, 0, middle, 5, HALL_TABLES(t)).refusal == HALL_ACCEPTED);
-    HOLDS(hall_insert(t.n, middle, 1, 5, HALL_TABLES(t)).refusal == HALL_TOO_MANY_WAYS);
-    cost[middle * t.n + 1] = 5;
-    cost[1] = 9;
-    HOLDS(hall_work_out(t.n, HALL_TABLES(t)) == HALL_ACCEPTED);
+    t = bundle(HALL_CROWDED_WAYS);
+    HOLDS(is_crowded(t));
+    e = hall_delete(t.n, 14, 1, HALL_TABLES(t));
+    HOLDS(e.refusal == HALL_ACCEPTED && e.rows == 2 && e.touched == 0x4001 && e.before == 5);
+    HOLDS(ways[1] == 12 && share[2] == 2310 && score[2] == 2310 && score[14] == 0);
+    e = hall_insert(t.n, 14, 1, 5, HALL_TABLES(t));
+    HOLDS(e.refusal == HALL_ACCEPTED && e.rows == 2 && e.touched == 0x4001 && e.before == 0 && is_crowded(t));
+    HOLDS(hall_insert(t.n, 0, 1, 9, HALL_TABLES(t)).refusal == HALL_ACCEPTED && ways[1] == 1 && time[1] == 9);
     e = hall_delete(t.n, 0, 1, HALL_TABLES(t));
-    HOLDS(e.refusal == HALL_TOO_MANY_WAYS && e.rows == 0 && e.touched == 0 && e.before == 0);
-    HOLDS(hall_audit(t.n, HALL_TABLES(t)) == HALL_ACCEPTED);
+    HOLDS(e.refusal == HALL_ACCEPTED && e.rows == 1 && e.touched == 1 && e.before == 9 && is_crowded(t));
+    t = bundle(62);
+    HOLDS(is_crowded(t));
+}
+
+/* An audit takes no other entry for a crowded pair, and no share that it might have had: 14 routes, an equal part of the scale for each. */
+static void crowded_audit(void)
+{
+    hall_tables t = bundle(14);
+
+    HOLDS(is_crowded(t));
+    for (uint32_t wrong_ways = 0; wrong_ways < 64; wrong_ways++) {
+        ways[1] = wrong_ways;
+        HOLDS(hall_audit(t.n, HALL_TABLES(t)) == (wrong_ways == HALL_CROWDED_WAYS ? HALL_ACCEPTED : HALL_BAD_TABLES));
+    }
+    ways[1] = HALL_CROWDED_WAYS + 65536;
+    HOLDS(hall_audit(t.n, HALL_TABLES(t)) == HALL_BAD_TABLES);
+    for (int is_true = 0; is_true < 2; is_true++) {
+        ways[1] = is_true ? 14 : HALL_CROWDED_WAYS;
+        for (uint64_t v = 2; v < t.n; v++)
+            share[v] = score[v] = HALL_SCALE / 14;
+        HOLDS(hall_audit(t.n, HALL_TABLES(t)) == HALL_BAD_TABLES);
+        memset(share, 0, sizeof share);
+        memset(score, 0, sizeof score);
+    }
+    ways[1] = HALL_CROWDED_WAYS;
+    HOLDS(is_crowded(t));
 }
 
 /* Links from each stop to all later ones, of the cost of their distance, so that the ways double from stop to stop. */
@@ -152,14 +200,19 @@ static hall_tables forward(uint64_t n)
     return t;
 }
 
-/* Ways are counted in 16 bits: too many are too many, however many, and what is right in 16 bits only is wrong. */
+/* Ways are counted in 16 bits: too many are too many, however many, and what is right in 16 bits only is wrong. A stop far from the ends
+ * has half of each pair around it that is less than five stops apart: 3 of these begin a stop before it, 2 two stops, 1 three. */
 static void ways_in_16_bits(void)
 {
     hall_tables t = forward(HALL_STOPS);
+    int good = 1;
 
-    HOLDS(hall_work_out(t.n, HALL_TABLES(t)) == HALL_TOO_MANY_WAYS);
+    HOLDS(hall_work_out(t.n, HALL_TABLES(t)) == HALL_ACCEPTED && ways[1] == 1 && ways[4] == 8);
+    for (uint64_t v = 5; v < t.n; v++)
+        good &= ways[v] == HALL_CROWDED_WAYS && time[v] == v;
+    HOLDS(good && score[31] == 3 * HALL_SCALE && hall_audit(t.n, HALL_TABLES(t)) == HALL_ACCEPTED);
     t = forward(6);
-    HOLDS(hall_work_out(t.n, HALL_TABLES(t)) == HALL_TOO_MANY_WAYS);
+    HOLDS(hall_work_out(t.n, HALL_TABLES(t)) == HALL_ACCEPTED && ways[5] == HALL_CROWDED_WAYS);
     t = forward(5);
     HOLDS(hall_work_out(t.n, HALL_TABLES(t)) == HALL_ACCEPTED);
     HOLDS(ways[4] == 8 && hall_audit(t.n, HALL_TABLES(t)) == HALL_ACCEPTED);
@@ -220,6 +273,43 @@ static void reversed(void)
     HOLDS(back.refusal == HALL_ACCEPTED && same_sources(back, e) && back.before == 0 && as_kept());
 }
 
+/* Whether row s of times, ways and shares is the one that was kept. */
+static int row_as_kept(uint64_t n, uint64_t s)
+{
+    return !memcmp(kept_time + s * n, time + s * n, n * sizeof *time) && !memcmp(kept_ways + s * n, ways + s * n, n * sizeof *ways) &&
+           !memcmp(kept_share + s * n, share + s * n, n * sizeof *share);
+}
+
+/* Each edit is reversed, where it crowds a pair, leaves it crowded or ends that: of 14 ways from 0 to 1 one runs slower, one closes, two
+ * do; a quicker link opens. From a crowded pair to a crowded one row 0 is touched and looks the same, and the others stay. */
+static void reversed_crowded(void)
+{
+    hall_tables t = bundle(14);
+    hall_edited e, back;
+
+    keep();
+    e = hall_raise(t.n, 15, 1, 6, HALL_TABLES(t));
+    HOLDS(e.refusal == HALL_ACCEPTED && e.touched == 0x8001 && e.before == 5 && is_crowded(t) && row_as_kept(t.n, 0) && !as_kept());
+    for (uint64_t s = 1; s < 15; s++)
+        HOLDS(row_as_kept(t.n, s));
+    back = hall_cheapen(t.n, 15, 1, e.before, HALL_TABLES(t));
+    HOLDS(back.refusal == HALL_ACCEPTED && same_sources(back, e) && back.before == 6 && as_kept());
+    HOLDS(hall_delete(t.n, 15, 1, HALL_TABLES(t)).refusal == HALL_ACCEPTED && is_crowded(t) && row_as_kept(t.n, 0));
+    keep();
+    e = hall_delete(t.n, 0, 14, HALL_TABLES(t));
+    HOLDS(e.refusal == HALL_ACCEPTED && e.touched == 1 && ways[1] == 12 && score[2] == 2310);
+    back = hall_insert(t.n, 0, 14, e.before, HALL_TABLES(t));
+    HOLDS(back.refusal == HALL_ACCEPTED && same_sources(back, e) && as_kept() && is_crowded(t));
+    e = hall_insert(t.n, 0, 1, 9, HALL_TABLES(t));
+    HOLDS(e.refusal == HALL_ACCEPTED && e.touched == 1 && ways[1] == 1);
+    back = hall_delete(t.n, 0, 1, HALL_TABLES(t));
+    HOLDS(back.refusal == HALL_ACCEPTED && same_sources(back, e) && back.before == 9 && as_kept());
+    e = hall_cheapen(t.n, 0, 2, 4, HALL_TABLES(t));
+    HOLDS(e.refusal == HALL_ACCEPTED && e.touched == 1 && ways[1] == 1 && score[2] == HALL_SCALE);
+    back = hall_raise(t.n, 0, 2, e.before, HALL_TABLES(t));
+    HOLDS(back.refusal == HALL_ACCEPTED && same_sources(back, e) && back.before == 4 && as_kept());
+}
+
 static int answers(hall_listed a, uint32_t refusal, uint32_t place, uint64_t touched, uint32_t rows)
 {
     return a.refusal == refusal && a.place == place && a.touched == touched && a.rows == rows;
@@ -267,6 +357,25 @@ static void listed(void)
     HOLDS(answers(hall_edit_list(5, list, 33, HALL_TABLES(t)), HALL_BAD_LENGTH, 0, 0, 0));
     ways[3]++;
     HOLDS(answers(hall_edit_list(4, list, 33, HALL_TABLES(t)), HALL_BAD_TABLES, 0, 0, 0));
+}
+
+/* A list may crowd a pair for good or in passing; refused, it is put back, from a crowded hall and to one. */
+static void listed_crowded(void)
+{
+    hall_tables t = bundle(HALL_CROWDED_WAYS);
+    hall_edit list[3] = {{HALL_DELETE, 0, 1, 0}, {HALL_DELETE, 14, 1, 0}, {HALL_DELETE, 14, 1, 0}};
+
+    HOLDS(hall_insert(t.n, 0, 1, 9, HALL_TABLES(t)).refusal == HALL_ACCEPTED && ways[1] == 1);
+    keep();
+    HOLDS(answers(hall_edit_list(t.n, list, 3, HALL_TABLES(t)), HALL_LINK_ABSENT, 3, 0, 0) && as_kept());
+    HOLDS(answers(hall_edit_list(t.n, list, 2, HALL_TABLES(t)), HALL_ACCEPTED, 0, 0x4001, 2) && ways[1] == 12 && score[2] == 2310);
+    list[0] = (hall_edit){HALL_INSERT, 14, 1, 5};
+    HOLDS(answers(hall_edit_list(t.n, list, 1, HALL_TABLES(t)), HALL_ACCEPTED, 0, 0x4001, 2) && is_crowded(t));
+    keep();
+    list[0] = (hall_edit){HALL_RAISE, 0, 14, 6};
+    HOLDS(answers(hall_edit_list(t.n, list, 3, HALL_TABLES(t)), HALL_LINK_ABSENT, 3, 0, 0) && as_kept());
+    list[1] = (hall_edit){HALL_CHEAPEN, 0, 14, 5};
+    HOLDS(answers(hall_edit_list(t.n, list, 2, HALL_TABLES(t)), HALL_ACCEPTED, 0, 1, 1) && as_kept());
 }
 
 /* Lists into `room` bytes of the buffer, all of which hold 0xa5 before. What the call answers, or HALL_NO_KIND if a table has changed,
@@ -338,6 +447,31 @@ static void twelve_listed(void)
     }
     HOLDS(hall_work_out(t.n, HALL_TABLES(t)) == HALL_ACCEPTED);
     HOLDS(lists(t, 0, 1, bytes, sizeof bytes));
+}
+
+/* The routes of a crowded pair are not listed, whatever the buffer, which stays; those of other pairs in its hall are. 14 comes after 1, 2,
+ * 13, 3 and 4 and before 10. */
+static void crowded_not_listed(void)
+{
+    hall_tables t = bundle(HALL_CROWDED_WAYS), other = tables_of(14);
+
+    HOLDS(list_into(sizeof buffer, t, t.n, 0, 1).refusal == HALL_CROWDED_PAIR);
+    HOLDS(list_into(53, t, t.n, 0, 1).refusal == HALL_CROWDED_PAIR && list_into(1, t, t.n, 0, 1).refusal == HALL_CROWDED_PAIR);
+    HOLDS(list_into(0, t, t.n, 0, 1).refusal == HALL_CROWDED_PAIR);
+    HOLDS(hall_list_routes(t.n, 0, 1, HALL_TABLES(t), NULL, 0).refusal == HALL_CROWDED_PAIR);
+    HOLDS(lists(t, 0, 14, "\1\2\0\16", 4) && lists(t, 2, 1, "\1\2\2\1", 4) && lists(t, 0, 0, "\1\1\0", 3) && lists(t, 1, 0, "\0", 1));
+    HOLDS(list_into(0, t, t.n, 0, 15).refusal == HALL_BAD_STOP && list_into(0, t, t.n, 15, 1).refusal == HALL_BAD_STOP);
+    HOLDS(list_into(0, t, t.n, 0, 1 + (UINT64_C(1) << 32)).refusal == HALL_BAD_STOP);
+    share[2]++;
+    HOLDS(list_into(0, t, t.n, 0, 1).refusal == HALL_BAD_TABLES);
+    share[2]--;
+    passing[1] = HALL_LARGEST_PASSING + 1;
+    HOLDS(list_into(0, t, t.n, 0, 1).refusal == HALL_BAD_PASSING);
+    HOLDS(list_into(0, other, t.n, 0, 1).refusal == HALL_BAD_LENGTH && list_into(0, t, 0, 0, 1).refusal == HALL_BAD_SIZE);
+    passing[1] = 0;
+    /* one way fewer, and they are listed */
+    HOLDS(hall_delete(t.n, 0, 14, HALL_TABLES(t)).refusal == HALL_ACCEPTED);
+    HOLDS(list_into(48, t, t.n, 0, 1).refusal == HALL_SHORT_BUFFER && list_into(49, t, t.n, 0, 1).length == 49);
 }
 
 /* Whether the list in the buffer ends at `length` and has quickest routes from 0 to 63, each behind the one before it. */
@@ -448,11 +582,11 @@ static void passing_only_read(void)
     /* 12 ways of time 11, and one of 10 over the last stop, which has no passing time */
     HOLDS(hall_work_out(15, PASSING(t, fixed, 15)) == HALL_ACCEPTED && time[1] == 10 && ways[1] == 1 && score[14] == HALL_SCALE);
     HOLDS(hall_audit(15, PASSING(t, fixed, 15)) == HALL_ACCEPTED);
-    HOLDS(hall_raise(15, 0, 14, 6, PASSING(t, fixed, 15)).refusal == HALL_TOO_MANY_WAYS);
+    HOLDS(hall_raise(15, 0, 14, 6, PASSING(t, fixed, 15)).refusal == HALL_ACCEPTED && ways[1] == HALL_CROWDED_WAYS && time[1] == 11);
+    HOLDS(hall_list_routes(15, 0, 1, PASSING(t, fixed, 15), buffer, sizeof buffer).refusal == HALL_CROWDED_PAIR);
     HOLDS(hall_insert(15, 0, 1, 11, PASSING(t, fixed, 15)).refusal == HALL_ACCEPTED);
-    HOLDS(hall_raise(15, 0, 14, 7, PASSING(t, fixed, 15)).refusal == HALL_TOO_MANY_WAYS);
-    HOLDS(hall_delete(15, 0, 1, PASSING(t, fixed, 15)).refusal == HALL_ACCEPTED);
-    HOLDS(hall_raise(15, 0, 14, 7, PASSING(t, fixed, 15)).refusal == HALL_ACCEPTED && ways[1] == 12 && score[2] == 2310);
+    HOLDS(hall_raise(15, 0, 14, 7, PASSING(t, fixed, 15)).refusal == HALL_ACCEPTED && ways[1] == HALL_CROWDED_WAYS && score[2] == 0);
+    HOLDS(hall_delete(15, 0, 1, PASSING(t, fixed, 15)).refusal == HALL_ACCEPTED && ways[1] == 12 && score[2] == 2310);
     HOLDS(hall_cheapen(15, 0, 14, 5, PASSING(t, fixed, 15)).refusal == HALL_ACCEPTED && ways[1] == 1);
     HOLDS(hall_edit_list(15, list, 2, PASSING(t, fixed, 15)).refusal == HALL_ACCEPTED);
     w = hall_list_routes(15, 0, 1, PASSING(t, fixed, 15), buffer, sizeof buffer);
@@ -460,8 +594,7 @@ static void passing_only_read(void)
     w = hall_image_write(15, PASSING(t, fixed, 15), buffer, sizeof buffer);
     HOLDS(w.refusal == HALL_ACCEPTED && hall_image_read(15, buffer, w.length, PASSING(t, fixed, 15)) == HALL_ACCEPTED);
     cost[14] = 6;
-    HOLDS(hall_work_out(15, PASSING(t, fixed, 15)) == HALL_TOO_MANY_WAYS);
-    cost[14] = 5;
+    HOLDS(hall_work_out(15, PASSING(t, fixed, 15)) == HALL_ACCEPTED && ways[1] == HALL_CROWDED_WAYS);
     HOLDS(hall_audit(15, PASSING(t, fixed, 15)) == HALL_ACCEPTED);
 }
 
@@ -552,26 +685,28 @@ static void passing_changed(void)
     memset(passing, 0, sizeof passing);
 }
 
-/* 12 ways, and a quicker one that passing makes the 13th: refused, and with the former passing times set back all is as it was. */
-static void passing_set_back(void)
+/* 12 ways, and a quicker one that passing makes the 13th, or a slower one. A passing time that is too long is refused, and with the former
+ * ones set back all is as it was. */
+static void passing_crowds(void)
 {
-    hall_tables t = tables_of(15);
+    hall_tables t = bundle(HALL_CROWDED_WAYS);
     hall_written w;
 
-    memset(cost, 0, sizeof cost);
-    for (uint64_t v = 2; v < 15; v++)
-        cost[v] = cost[v * t.n + 1] = 5;
-    cost[2] = 4;
-    HOLDS(hall_work_out(t.n, HALL_TABLES(t)) == HALL_ACCEPTED && ways[1] == 1);
+    HOLDS(hall_cheapen(t.n, 0, 2, 4, HALL_TABLES(t)).refusal == HALL_ACCEPTED && ways[1] == 1);
     w = hall_image_write(t.n, HALL_TABLES(t), buffer, sizeof buffer);
-    passing[2] = 1;
     keep();
-    HOLDS(hall_work_out(t.n, HALL_TABLES(t)) == HALL_TOO_MANY_WAYS && as_kept());
-    HOLDS(hall_image_read(t.n, buffer, w.length, HALL_TABLES(t)) == HALL_TOO_MANY_WAYS && as_kept());
+    passing[2] = HALL_LARGEST_PASSING + 1;
+    HOLDS(hall_work_out(t.n, HALL_TABLES(t)) == HALL_BAD_PASSING);
+    HOLDS(hall_image_read(t.n, buffer, w.length, HALL_TABLES(t)) == HALL_BAD_PASSING);
     passing[2] = 0;
-    HOLDS(hall_audit(t.n, HALL_TABLES(t)) == HALL_ACCEPTED);
+    HOLDS(as_kept() && hall_audit(t.n, HALL_TABLES(t)) == HALL_ACCEPTED);
+    passing[2] = 1;
+    HOLDS(hall_work_out(t.n, HALL_TABLES(t)) == HALL_ACCEPTED && is_crowded(t));
+    keep();
     passing[2] = 2;
     HOLDS(hall_image_read(t.n, buffer, w.length, HALL_TABLES(t)) == HALL_ACCEPTED && ways[1] == 12 && time[1] == 10);
+    passing[2] = 1;
+    HOLDS(hall_image_read(t.n, buffer, w.length, HALL_TABLES(t)) == HALL_ACCEPTED && is_crowded(t) && as_kept());
     memset(passing, 0, sizeof passing);
 }
 
@@ -690,6 +825,22 @@ static void not_moved(void)
     HOLDS(move(t.n, t) == HALL_ACCEPTED);
 }
 
+/* Old tables with 13 to 22 ways do not move over, with 11, and those with more are none, with 3. A work out takes each of them; what it
+ * leaves, with a crowded pair, is 3 for the moving call, also where the entry of 13 is the number of ways. */
+static void crowded_not_moved(void)
+{
+    for (uint64_t between = 13; between < 26; between++) {
+        hall_tables t = old_hall(between);
+
+        HOLDS(move(t.n, t) == (between <= HALL_OLD_WAYS ? HALL_TOO_MANY_WAYS : HALL_BAD_TABLES));
+        HOLDS(hall_audit(t.n, HALL_TABLES(t)) == HALL_BAD_TABLES);
+        HOLDS(hall_work_out(t.n, HALL_TABLES(t)) == HALL_ACCEPTED && is_crowded(t) && move(t.n, t) == HALL_BAD_TABLES);
+        /* nor are there crowded pairs by the old limit */
+        ways[1] = HALL_OLD_WAYS + 1;
+        HOLDS(move(t.n, t) == HALL_BAD_TABLES);
+    }
+}
+
 /* The moving call knows no passing times: what it leaves has none, and tables in which one counts are not those of the old numbers, also
  * where every share is 0. */
 static void moved_without_passing(void)
@@ -752,21 +903,26 @@ int main(void)
     null_is_empty();
     names_fit();
     most_ways();
+    crowded_audit();
     ways_in_16_bits();
     reversed();
+    reversed_crowded();
     listed();
+    listed_crowded();
     routes_listed();
     twelve_listed();
+    crowded_not_listed();
     longest_list();
     passing_refused();
     passing_only_read();
     only_between();
     largest_time();
     passing_changed();
-    passing_set_back();
+    passing_crowds();
     image_without_passing();
     moved();
     not_moved();
+    crowded_not_moved();
     moved_without_passing();
     largest_score();
     longest_image();

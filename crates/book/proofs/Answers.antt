@@ -7,7 +7,7 @@ use Rattle.book.specs.Hall.{Layout, Tables}
 use Rattle.book.specs.Call.{Ask, emptyHall, audit, moveOver, workOut, edit, editList, listRoutes, imageWrite, imageRead, Call, accepted, Answer, refusedAt, Rule, rule, reply, refusal, answer, Done}
 use Rattle.book.specs.Book.{Book, bookRefusal, bookAnswer}
 use Rattle.book.specs.declared.Refusal.{Refusal}
-use Rattle.book.specs.declared.Refusal.the-variants.{Accepted, BadSize, BadLength, BadTables, BadStop, BadCost, LinkPresent, LinkAbsent, CostWrongSide, BadImage, ShortBuffer, TooManyWays, ListTooLong, BadPassing}
+use Rattle.book.specs.declared.Refusal.the-variants.{Accepted, BadSize, BadLength, BadTables, BadStop, BadCost, LinkPresent, LinkAbsent, CostWrongSide, BadImage, ShortBuffer, TooManyWays, ListTooLong, BadPassing, CrowdedPair}
 
 -- an accepted call says so
 says-accepted : (n : ℕ) (ask : Ask) (lay : Layout) → rule n ask lay .says .refusal ≡ Accepted
@@ -38,6 +38,7 @@ reply-refusal ShortBuffer x e = refl
 reply-refusal TooManyWays x e = refl
 reply-refusal ListTooLong x e = refl
 reply-refusal BadPassing x e = refl
+reply-refusal CrowdedPair x e = refl
 
 -- the answer of a call, of the book, and of a call that was made
 pub answer-refusal : (c : Call) (t : Tables) → answer c t .refusal ≡ refusal c t

@@ -5,16 +5,16 @@ use mathlib.Core.Logic.{_≢_, _↔_}
 use mathlib.Core.Bool.{Bool, true, false, _||_}
 use lib.Dec.{eqb, leb}
 use borrow.Author.Tests.{eq-eqb}
-use Rattle.book.specs.Hall.{Layout, Tables, mostStops, mostWays, scale, upTo, filled, sized, validCosts, uncrowded, right, validPassing}
+use Rattle.book.specs.Hall.{Layout, Tables, mostStops, mostWays, scale, upTo, filled, sized, validCosts, right, validPassing}
 use Rattle.book.specs.Call.{Call, audit, workOut, number, accepted, need, rule, refusal, after}
 use Rattle.book.specs.declared.Refusal.the-variants.{Accepted, BadSize, BadLength, BadTables, BadPassing}
 use Rattle.book.proofs.Filled.{sized-filled, right-filled, right-true}
 use Rattle.book.proofs.Passed.{need-true, passed, fitted, brief, audited}
 use Rattle.book.proofs.Steps.{worked-held, held-worked, held-right}
 
--- valid costs without a crowded pair, and their tables
+-- valid costs, and their tables
 abbrev pub RightTables : ℕ → Tables → Type 0
-RightTables n t = (validCosts n (t .layout .cost) ≡ true) × (uncrowded mostWays n (t .layout) ≡ true) × (filled scale n (t .layout) ≡ t)
+RightTables n t = (validCosts n (t .layout .cost) ≡ true) × (filled scale mostWays n (t .layout) ≡ t)
 
 module _ (n : ℕ) (t : Tables) (size : upTo mostStops n ≡ true) (lengths : sized n t ≡ true) (passable : validPassing n (t .layout .passing) ≡ true) where
   audit-right : refusal (record { n = n; ask = audit }) t ≡ need (right scale mostWays n t) BadTables Accepted
@@ -25,7 +25,7 @@ module _ (n : ℕ) (t : Tables) (size : upTo mostStops n ≡ true) (lengths : si
   pub audit-accepts : (refusal (record { n = n; ask = audit }) t ≡ Accepted) ↔ RightTables n t
   audit-accepts = (
     λ e. right-true scale mostWays n t (need-true (right scale mostWays n t) BadTables Accepted refl (ap accepted (sym audit-right ∙ e)) .0),
-    λ r. let passes = subst (λ x. right scale mostWays n x ≡ true) (r .2) (right-filled scale mostWays n (t .layout) (r .0) (r .1)) in
+    λ r. let passes = subst (λ x. right scale mostWays n x ≡ true) (r .1) (right-filled scale mostWays n (t .layout) (r .0)) in
         audit-right ∙ ap (λ b. need b BadTables Accepted) passes,
   )
 
@@ -53,7 +53,7 @@ module _ (n : ℕ) (t : Tables) where
       there e =
           let (size, lengths, tests) = passed auditCall t e in
           let passable = brief auditCall t e in
-          let (valid, few, same) = audit-accepts n t size lengths passable .0 e in
+          let (valid, same) = audit-accepts n t size lengths passable .0 e in
           let ok = held-worked n (t .layout) t (held-right n t size lengths passable (audited auditCall t e)) lengths in
           (ok, rw ok same)
 
@@ -61,7 +61,7 @@ module _ (n : ℕ) (t : Tables) where
       back (ok, same) =
           let (size, lengths, tests) = passed workCall t ok in
           let h = worked-held n (t .layout) (t .layout) size (fitted workCall t ok) (brief workCall t ok) tests in
-          audit-accepts n t size lengths (h .passable) .1 (h .valid, h .few, rw ok at same)
+          audit-accepts n t size lengths (h .passable) .1 (h .valid, rw ok at same)
 
   -- else it says 1, 2, 13 or 3
   pub audit-else : (leb (number (refusal auditCall t)) 3 || eqb (number (refusal auditCall t)) 13) ≡ true
@@ -83,7 +83,7 @@ unfolding after rule filled
 audit-worked n lay t e =
     let (size, lengths, tests) = passed (record { n = n; ask = workOut lay }) t e in
     let h = worked-held n lay (t .layout) size (fitted (record { n = n; ask = workOut lay }) t e) (brief (record { n = n; ask = workOut lay }) t e) tests in
-    rw e (audit-accepts n (filled scale n lay) size (sized-filled scale n n lay (h .square) (h .long) ∙ eq-eqb n n refl) (h .passable) .1 (h .valid, h .few, refl))
+    rw e (audit-accepts n (filled scale mostWays n lay) size (sized-filled scale mostWays n n lay (h .square) (h .long) ∙ eq-eqb n n refl) (h .passable) .1 (h .valid, refl))
 
 -- and beside its layout no other times, ways, shares or scores of their lengths do
 pub audit-other : (n : ℕ) (lay : Layout) (t t′ : Tables) → refusal (record { n = n; ask = workOut lay }) t ≡ Accepted →
@@ -91,4 +91,4 @@ pub audit-other : (n : ℕ) (lay : Layout) (t t′ : Tables) → refusal (record
 unfolding after rule
 audit-other n lay t t′ e costs lengths other =
     audit-refuses n t′ (passed (record { n = n; ask = workOut lay }) t e .0) lengths (rw costs (brief (record { n = n; ask = workOut lay }) t e))
-    (λ r. other (sym (r .2) ∙ ap (filled scale n) costs ∙ rw e))
+    (λ r. other (sym (r .1) ∙ ap (filled scale mostWays n) costs ∙ rw e))

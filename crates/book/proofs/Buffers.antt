@@ -2,17 +2,17 @@
 -- Assumes nothing.
 use Prim.Native.Nat.{ℕ, _<_, _≤_}
 use mathlib.Core.Path.{_≡_, refl, sym, _∙_, subst}
-use mathlib.Core.Bool.{Bool, true, false, cond, _&&_}
+use mathlib.Core.Bool.{Bool, true, false, cond, not, _&&_}
 use mathlib.Core.List.{List, _++_}
 use native.Mathlib.Omega.{arith}
 use lib.Dec.{ltb, leb}
 use lib.ListN.{length, drop}
 use borrow.Author.Tests.{le-leb, lt-leb}
-use Rattle.book.specs.Hall.{Tables, mostWays, scale, right, routeList, imageOf}
+use Rattle.book.specs.Hall.{Tables, mostWays, scale, crowdedPair, right, routeList, imageOf}
 use Rattle.book.specs.Call.{Call, audit, listRoutes, imageWrite, accepted, need, Answer, refusedAt, plain, writes, writing, rule, refusal, after, answer, Done}
 use Rattle.book.specs.Contract.{ofRefusal, ofWrite, stored, Audited}
 use Rattle.book.specs.declared.Refusal.{Refusal}
-use Rattle.book.specs.declared.Refusal.the-variants.{Accepted, BadStop, ShortBuffer}
+use Rattle.book.specs.declared.Refusal.the-variants.{Accepted, BadStop, ShortBuffer, CrowdedPair}
 use Rattle.book.proofs.Passed.{audited}
 use Rattle.book.proofs.Refused.{bufferOf, placeOf, refused-done}
 use Rattle.book.proofs.Doors.{audit-refused, behind-audit, leaves-tables}
@@ -25,19 +25,19 @@ module _ (bytes : List ℕ) (k : ℕ) (size : length bytes ≡ k) (b : List ℕ)
   pub stored-whole : {all : List ℕ} → k ≤ length b → all ≡ bytes ++ drop k b → ofWrite (record { refusal = Accepted; length = k }) all ≡ stored bytes b
   stored-whole {all} h e = rw (e, size, le-leb k (length b) h)
 
--- a call that, by its rule, writes these bytes
-pub record Writes (c : Call) (t : Tables) (known : Bool) (bytes buffer : List ℕ) : Type 0 where
-  pub by-rule : rule (c .n) (c .ask) (t .layout) ≡ writing (c .n) known bytes buffer (t .layout)
+-- a call that, by its rule, writes these bytes; `full` says that its stops are a crowded pair
+pub record Writes (c : Call) (t : Tables) (known full : Bool) (bytes buffer : List ℕ) : Type 0 where
+  pub by-rule : rule (c .n) (c .ask) (t .layout) ≡ writing (c .n) known full bytes buffer (t .layout)
 
-pub list-writes : (n s x : ℕ) (t : Tables) (buffer : List ℕ) → Writes (record { n = n; ask = listRoutes s x buffer }) t (ltb s n && ltb x n) (routeList n (t .layout) s x) buffer
+pub list-writes : (n s x : ℕ) (t : Tables) (buffer : List ℕ) → Writes (record { n = n; ask = listRoutes s x buffer }) t (ltb s n && ltb x n) (crowdedPair mostWays n (t .layout) s x) (routeList n (t .layout) s x) buffer
 unfolding rule
 list-writes n s x t buffer = record { by-rule = refl }
 
-pub image-writes : (n : ℕ) (t : Tables) (buffer : List ℕ) → Writes (record { n = n; ask = imageWrite buffer }) t true (imageOf n (t .layout .cost)) buffer
+pub image-writes : (n : ℕ) (t : Tables) (buffer : List ℕ) → Writes (record { n = n; ask = imageWrite buffer }) t true false (imageOf n (t .layout .cost)) buffer
 unfolding rule
 image-writes n t buffer = record { by-rule = refl }
 
-module _ {c : Call} {t : Tables} {known : Bool} {bytes buffer : List ℕ} (w : Writes c t known bytes buffer) where
+module _ {c : Call} {t : Tables} {known full : Bool} {bytes buffer : List ℕ} (w : Writes c t known full bytes buffer) where
   -- accepted or refused, it leaves the tables
   pub write-leaves : after c t ≡ t
   write-leaves = leaves-tables c t (rw (w .by-rule)) (rw (w .by-rule))
@@ -51,18 +51,22 @@ module _ {c : Call} {t : Tables} {known : Bool} {bytes buffer : List ℕ} (w : W
   write-refused r d shut = refused-so r (audit-refused c t (λ s. rw (w .by-rule)) (rw (w .by-rule)) (rw (w .by-rule)) r d shut)
 
   module _ (a : Audited (c .n) t) where
-    -- behind the audit come its stops and its buffer
-    write-tests : refusal c t ≡ need known BadStop (need (leb (length bytes) (length buffer)) ShortBuffer Accepted)
+    -- behind the audit come its stops, whether they are a crowded pair, and its buffer
+    write-tests : refusal c t ≡ need known BadStop (need (not full) CrowdedPair (need (leb (length bytes) (length buffer)) ShortBuffer Accepted))
     write-tests = behind-audit c t (λ s. rw (w .by-rule)) (rw (w .by-rule)) (rw (w .by-rule)) a ∙ rw (w .by-rule)
 
     -- a stop of n or more
     pub write-nowhere : known ≡ false → Done c t t (plain BadStop buffer)
     write-nowhere e = refused-so BadStop (refused-done c t BadStop (write-tests ∙ rw e) refl)
 
+    -- a crowded pair
+    pub write-crowded : known ≡ true → full ≡ true → Done c t t (plain CrowdedPair buffer)
+    write-crowded e f = refused-so CrowdedPair (refused-done c t CrowdedPair (write-tests ∙ rw (e, f)) refl)
+
     -- its bytes are stored where they fit
-    pub write-stored : {x : Answer} → known ≡ true → x ≡ stored bytes buffer → Done c t t x
+    pub write-stored : {x : Answer} → known ≡ true → full ≡ false → x ≡ stored bytes buffer → Done c t t x
     unfolding answer
-    write-stored {x} e f = record { left = sym write-leaves; answered = f ∙ rw (write-tests, e, w .by-rule) (go (leb (length bytes) (length buffer))) }
+    write-stored {x} e o f = record { left = sym write-leaves; answered = f ∙ rw (write-tests, e, o, w .by-rule) (go (leb (length bytes) (length buffer))) }
       where
         go : (b : Bool) →
             let r : Refusal = need b ShortBuffer Accepted in
@@ -71,8 +75,8 @@ module _ {c : Call} {t : Tables} {known : Bool} {bytes buffer : List ℕ} (w : W
         go false = refl
 
     -- and there it is accepted
-    pub write-taken : known ≡ true → length bytes ≤ length buffer → refusal c t ≡ Accepted
-    write-taken e h = write-tests ∙ rw (e, le-leb (length bytes) (length buffer) h)
+    pub write-taken : known ≡ true → full ≡ false → length bytes ≤ length buffer → refusal c t ≡ Accepted
+    write-taken e o h = write-tests ∙ rw (e, o, le-leb (length bytes) (length buffer) h)
 
   -- an accepted one has right tables, and answers with its bytes in front of the buffer
   module _ (ok : refusal c t ≡ Accepted) where

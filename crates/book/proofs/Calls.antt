@@ -6,21 +6,21 @@ use mathlib.Core.Path.{_≡_, refl, _∙_, ap}
 use mathlib.Core.Logic.{_≢_}
 use mathlib.Core.Bool.{Bool, true}
 use mathlib.Core.List.{List, [], _∷_, _++_}
-use lib.Dec.{eqb, lit<}
+use lib.Dec.{eqb}
 use lib.ListN.{length, take, drop}
 use lib.Seq.{take-append-seam}
 use borrow.Author.Tests.{eqb-true, ne-eqb, eq-eqb}
 use Rattle.routes.specs.Route.{Costs, allTo, ways, through, portion}
 use Rattle.routes.proofs.Sums.{all-true}
-use Rattle.book.specs.Hall.{Layout, Tables, mostStops, mostWays, scale, oldMostWays, oldScale, upTo, entry, filled, sized, validPair, uncrowded, right, imageOf, isImage, costsOf, laid, validPassing, noLinks}
-use Rattle.book.specs.Call.{Call, edit, imageWrite, imageRead, costTests, withEdit, rule, Answer, refusal, after, answer}
+use Rattle.book.specs.Hall.{Layout, Tables, mostStops, mostWays, scale, oldMostWays, oldScale, upTo, entry, filled, sized, validPair, right, imageOf, isImage, costsOf, laid, validPassing, noLinks}
+use Rattle.book.specs.Call.{Call, edit, imageWrite, imageRead, costTests, rule, Answer, refusal, after, answer}
 use Rattle.book.proofs.Bytes.{Bytes}
 use Rattle.book.proofs.Images.{written-read, written-costs, read-written}
 use Rattle.book.proofs.Filled.{sized-filled, sized-cost, right-filled, right-true, sized-passing}
 use Rattle.book.proofs.Passed.{need-true, passed, edit-alone, brief}
 use Rattle.book.proofs.Steps.{held-audited, accepted-held, accepted-filled, OfMove}
 use Rattle.book.proofs.Buffers.{image-writes, write-taken, written-right, written-length, written-buffer}
-use Rattle.book.proofs.NoLinks.{valid-none, uncrowded-none}
+use Rattle.book.proofs.NoLinks.{valid-none}
 use Rattle.book.specs.declared.Edit.{Edit}
 use Rattle.book.specs.declared.Refusal.the-variants.{Accepted, BadStop, BadImage}
 use Rattle.book.proofs.Sizes.{stops}
@@ -42,7 +42,7 @@ pub whole-old : (k : ℕ) → 0 < k → k ≤ oldMostWays → k ∣ oldScale
 unfolding allTo
 whole-old = divides oldMostWays oldScale refl
 
--- so what a pair adds to a share is exact: times its ways, it is the scale times the ways through v
+-- so what a pair that is not crowded adds to a share is exact: times its ways, it is the scale times the ways through v
 pub exact : (W : Costs) (n s v t : ℕ) → 0 < ways W n s t → ways W n s t ≤ mostWays → t ≢ s → t ≢ v →
     portion W n s scale v t * ways W n s t ≡ scale * through W n s v t
 unfolding portion
@@ -51,31 +51,30 @@ exact W n s v t some few a b =
     (div-mul-cancel (ways W n s t) (dvd-mul-right-of-dvd (ways W n s t) (whole (ways W n s t) some few) (through W n s v t)))
 
 -- every edit of a hall of one stop is 4
-pub one-stop : (e : Edit) (p : ℕ) → validPassing 1 (p ∷ []) ≡ true → refusal (record { n = 1; ask = edit e }) (filled scale 1 (noLinks 1 (p ∷ []))) ≡ BadStop
+pub one-stop : (e : Edit) (p : ℕ) → validPassing 1 (p ∷ []) ≡ true → refusal (record { n = 1; ask = edit e }) (filled scale mostWays 1 (noLinks 1 (p ∷ []))) ≡ BadStop
 unfolding refusal rule filled
 one-stop e p fits =
     let lay : Layout = noLinks 1 (p ∷ []) in
-    rw (sized-filled scale 1 1 lay refl refl, fits, right-filled scale mostWays 1 lay (valid-none 1) (uncrowded-none mostWays 1 (p ∷ []) (lit< tt)))
+    rw (sized-filled scale mostWays 1 1 lay refl refl, fits, right-filled scale mostWays 1 lay (valid-none 1))
     (edit-alone e lay)
 
--- an edit on right tables is accepted where its stops, its cost and its link fit and it crowds no pair
+-- an edit on right tables is accepted where its stops, its cost and its link fit
 pub edit-taken : (n : ℕ) (e : Edit) (t : Tables) → upTo mostStops n ≡ true → sized n t ≡ true → validPassing n (t .layout .passing) ≡ true → right scale mostWays n t ≡ true →
-    validPair n (e .u) (e .v) ≡ true → costTests (e .kind) (e .cost) (entry n (t .layout .cost) (e .u) (e .v)) Accepted ≡ Accepted →
-    uncrowded mostWays n (withEdit n e (t .layout)) ≡ true → refusal (record { n = n; ask = edit e }) t ≡ Accepted
+    validPair n (e .u) (e .v) ≡ true → costTests (e .kind) (e .cost) (entry n (t .layout .cost) (e .u) (e .v)) ≡ Accepted →
+    refusal (record { n = n; ask = edit e }) t ≡ Accepted
 unfolding refusal rule
-edit-taken n e t size lengths passable sound pair fits few = rw (size, lengths, passable, sound, pair, few) fits
+edit-taken n e t size lengths passable sound pair fits = rw (size, lengths, passable, sound, pair) fits
 
--- an image is read where no pair is crowded, and gives the tables of its costs and the lent passing times
-module _ (n : ℕ) (t : Tables) (image : List ℕ) (size : upTo mostStops n ≡ true) (lengths : sized n t ≡ true) (passable : validPassing n (t .layout .passing) ≡ true)
-    (is : isImage n image ≡ true) (few : uncrowded mostWays n (laid (costsOf n image) (t .layout .passing)) ≡ true) where
+-- an image is read, and gives the tables of its costs and the lent passing times
+module _ (n : ℕ) (t : Tables) (image : List ℕ) (size : upTo mostStops n ≡ true) (lengths : sized n t ≡ true) (passable : validPassing n (t .layout .passing) ≡ true) (is : isImage n image ≡ true) where
   abbrev reading : Call
   reading = record { n = n; ask = imageRead image (t .layout .passing) }
 
-  read-taken : refusal reading t ≡ Accepted
+  pub read-taken : refusal reading t ≡ Accepted
   unfolding refusal rule
-  read-taken = rw (size, sized-passing n t lengths, eq-eqb n n refl, lengths, passable, is, few)
+  read-taken = rw (size, sized-passing n t lengths, eq-eqb n n refl, lengths, passable, is)
 
-  read-gives : after reading t ≡ filled scale n (laid (costsOf n image) (t .layout .passing))
+  read-gives : after reading t ≡ filled scale mostWays n (laid (costsOf n image) (t .layout .passing))
   unfolding after rule
   read-gives = rw read-taken
 
@@ -91,16 +90,15 @@ written-back n t t′ buffer ok lengths alike =
     let image : List ℕ = imageOf n (t .layout .cost) in
     let w = image-writes n t buffer in
     let (size, sizes, tests) = passed call t ok in
-    let (valid, few, same) = right-true scale mostWays n t (written-right w ok) in
+    let (valid, same) = right-true scale mostWays n t (written-right w ok) in
     let small : n ≤ 64 = stops n size .1 in
     let costs = written-costs n (t .layout .cost) small valid (sized-cost n t sizes) in
     let passable : validPassing n (t′ .layout .passing) ≡ true = rw alike (brief call t ok) in
     let is = written-read n (t .layout .cost) small valid in
     let layouts : laid (costsOf n image) (t′ .layout .passing) ≡ t .layout = λ i. laid (costs i) (alike i) in
-    let free : uncrowded mostWays n (laid (costsOf n image) (t′ .layout .passing)) ≡ true = rw layouts few in
     let front : take (length image) (image ++ drop (length image) buffer) ≡ image = take-append-seam image _ in
     rw (written-length w ok, written-buffer w ok, front)
-    (read-taken n t′ image size lengths passable is free, read-gives n t′ image size lengths passable is free ∙ ap (filled scale n) layouts ∙ same)
+    (read-taken n t′ image size lengths passable is, read-gives n t′ image size lengths passable is ∙ ap (filled scale mostWays n) layouts ∙ same)
 
 -- an image that is read, written again from what it gave, gives its bytes, and the bytes past them stay
 pub read-back : (n : ℕ) (t : Tables) (image passing buffer : List ℕ) → Bytes image → refusal (record { n = n; ask = imageRead image passing }) t ≡ Accepted →
@@ -114,7 +112,7 @@ read-back n t image passing buffer bytes ok fits =
     let lay : Layout = laid (costsOf n image) passing in
     let (size, lengths, tests) = passed read t ok in
     let again = read-written n image (stops n size .1) bytes (need-true (isImage n image) BadImage _ refl tests .0) in
-    let w = image-writes n (filled scale n lay) buffer in
-    let taken = write-taken w (held-audited n lay (accepted-held read t ok tt)) refl (rw again fits) in
+    let w = image-writes n (filled scale mostWays n lay) buffer in
+    let taken = write-taken w (held-audited n lay (accepted-held read t ok tt)) refl refl (rw again fits) in
     rw (accepted-filled read t ok)
     (taken, written-length w taken ∙ ap length again, written-buffer w taken ∙ ap (λ l. l ++ drop (length l) buffer) again)

@@ -6,7 +6,7 @@ use mathlib.Core.Bool.{Bool, true, false, _&&_}
 use mathlib.Core.List.{List, [], _∷_, _++_, map}
 use lib.ListN.{replicate, drop}
 use lib.Dec.{ltb}
-use Rattle.routes.specs.Route.{mark, sumTo, joinTo, listTo, allTo, same, setOf, count, chosen, ahead, among, inOrder, visits, uses, time, least, extend, hops, routes, leastTime, quickest, ways, quickestRoutes, through, portion, share, used, score}
+use Rattle.routes.specs.Route.{mark, sumTo, joinTo, listTo, allTo, same, setOf, count, chosen, ahead, among, inOrder, visits, uses, time, least, extend, hops, routes, leastTime, quickest, ways, quickestRoutes, through, portion, openShare, used, score}
 use Rattle.book.specs.Hall.{Layout, laid, Tables, mostStops, largestCost, largestPassing, mostWays, scale, oldMostWays, oldScale, oldPerNew, filled, sized, validCosts, validPassing, noPassing, noLinks, uncrowded, right, touched, routeBytes, routeList, lowFirst, field, imageOf, validRecord, isImage, costsOf}
 use Rattle.book.specs.Call.{Call, Ask, emptyHall, audit, workOut, edit, editList, number, run, touchedBy, judged, rule, Answer, refusal, after, answer, reversal}
 use Rattle.book.specs.Book.{Book, Step, kept, bookRefusal, bookAfter, bookAnswer, bookAnswers}
@@ -143,22 +143,22 @@ pub costs-left :
     (left (change Insert 0 1 9 ∷ change Insert 1 0 9 ∷ change Cheapen 0 1 4 ∷ []) ≡ 0 ∷ 4 ∷ 9 ∷ 0 ∷ []) ×
     (left (change Insert 0 1 9 ∷ change Insert 1 0 9 ∷ change Raise 1 0 12 ∷ []) ≡ 0 ∷ 9 ∷ 12 ∷ 0 ∷ []) ×
     (left (change Insert 0 1 9 ∷ change Insert 1 0 9 ∷ change Delete 1 0 9 ∷ []) ≡ 0 ∷ 9 ∷ 0 ∷ 0 ∷ [])
-unfolding sumTo joinTo listTo allTo same setOf count visits uses time least extend hops routes leastTime quickest ways through portion share used score filled sized validCosts validPassing uncrowded right touched rule refusal after answer run stepsOf
+unfolding sumTo joinTo listTo allTo same setOf count visits uses time least extend hops routes leastTime quickest ways through portion openShare used score filled sized validCosts validPassing uncrowded right touched rule refusal after answer run stepsOf
 costs-left = (refl, refl, refl, refl)
 
 pub cases-hold : map holds cases ≡ replicate 13 true
-unfolding holds sumTo joinTo listTo allTo same setOf count visits uses time least extend hops routes leastTime quickest ways through portion share used score filled sized validCosts validPassing uncrowded right touched rule refusal after answer run stepsOf
+unfolding holds sumTo joinTo listTo allTo same setOf count visits uses time least extend hops routes leastTime quickest ways through portion openShare used score filled sized validCosts validPassing uncrowded right touched rule refusal after answer run stepsOf
 cases-hold = refl
 
 -- P2's edit, reversed by what its kind, its stops and its answer give, leaves the five tables of P1, and answers the cost that it had set
 pub reversed-so :
-    let t : Tables = filled scale 4 even in
+    let t : Tables = filled scale mostWays 4 even in
     let c : Call = record { n = 4; ask = change Cheapen 2 3 4 } in
     let back : Call = record { n = 4; ask = edit (reversal Cheapen 2 3 (answer c t)) } in
     let a : Answer = answer back (after c t) in
     (run kept (stepsOf (calls (case 4 diamond [] [] [] [])) (sevens 4)) (sevens 4) ≡ t) × (back .ask ≡ change Raise 2 3 5) ×
     (after back (after c t) ≡ t) × (number (a .refusal) ∷ a .touched ∷ a .before ∷ [] ≡ 0 ∷ 5 ∷ 4 ∷ [])
-unfolding sumTo joinTo listTo allTo same setOf count visits uses time least extend hops routes leastTime quickest ways through portion share used score filled sized validCosts validPassing uncrowded right touched rule refusal after answer run stepsOf
+unfolding sumTo joinTo listTo allTo same setOf count visits uses time least extend hops routes leastTime quickest ways through portion openShare used score filled sized validCosts validPassing uncrowded right touched rule refusal after answer run stepsOf
 reversed-so = (refl, refl, refl, refl)
 
 -- what a list answers: refusal, place, set and number
@@ -167,11 +167,11 @@ told a = number (a .refusal) ∷ a .place ∷ a .touched ∷ a .rows ∷ []
 
 -- a list whose second edit takes back its first: the rows of 0 and 2 are in the union, and all five tables are as they were
 pub list-back :
-    let t : Tables = filled scale 4 even in
+    let t : Tables = filled scale mostWays 4 even in
     let c : Call = record { n = 4; ask = editList (editOf Cheapen 2 3 4 ∷ editOf Raise 2 3 5 ∷ []) } in
     let a : Answer = answer c t in
     (told a ≡ 0 ∷ 0 ∷ 5 ∷ 2 ∷ []) × (after c t ≡ t)
-unfolding sumTo joinTo listTo allTo same setOf count visits uses time least extend hops routes leastTime quickest ways through portion share used score filled sized validCosts validPassing uncrowded right touched touchedBy judged rule refusal after answer run
+unfolding sumTo joinTo listTo allTo same setOf count visits uses time least extend hops routes leastTime quickest ways through portion openShare used score filled sized validCosts validPassing uncrowded right touched touchedBy judged rule refusal after answer run
 list-back = (refl, refl)
 
 -- lists in the book: the hall of P1 in one go; then refused at the second edit, though the first is accepted, and at the first, which its
@@ -184,7 +184,7 @@ pub lists-run :
     let long : List Answer = said 2 (to-and-fro ∷ (editOf Insert 0 1 3 ∷ to-and-fro) ∷ [] ∷ []) in
     (map told small ≡ (0 ∷ 0 ∷ 7 ∷ 3 ∷ []) ∷ (6 ∷ 2 ∷ 0 ∷ 0 ∷ []) ∷ (7 ∷ 1 ∷ 0 ∷ 0 ∷ []) ∷ []) ×
     (map told long ≡ (0 ∷ 0 ∷ 2 ∷ 1 ∷ []) ∷ (12 ∷ 0 ∷ 0 ∷ 0 ∷ []) ∷ (0 ∷ 0 ∷ 0 ∷ 0 ∷ []) ∷ [])
-unfolding sumTo joinTo listTo allTo same setOf count visits uses time least extend hops routes leastTime quickest ways through portion share used score filled sized validCosts validPassing uncrowded right touched touchedBy judged rule bookRefusal bookAfter bookAnswer bookAnswers run
+unfolding sumTo joinTo listTo allTo same setOf count visits uses time least extend hops routes leastTime quickest ways through portion openShare used score filled sized validCosts validPassing uncrowded right touched touchedBy judged rule bookRefusal bookAfter bookAnswer bookAnswers run
 lists-run = (refl, refl)
 
 -- the sets of touched sources of raises in the book, a refused one among them and one of a link that no quickest route uses, and the
@@ -195,7 +195,7 @@ pub raises-run :
     (sets 4 (workOut uneven ∷ change Raise 2 3 5 ∷ change Raise 2 3 6 ∷ change Raise 2 3 7 ∷ []) ≡ 0 ∷ 5 ∷ 5 ∷ 4 ∷ []) ×
     (sets 3 (workOut bypass ∷ change Raise 2 1 2 ∷ change Raise 2 1 4 ∷ change Raise 0 1 8 ∷ change Raise 0 1 9 ∷ []) ≡ 0 ∷ 0 ∷ 4 ∷ 1 ∷ 0 ∷ []) ×
     (run bookAfter (at 3 (workOut bypass ∷ change Raise 2 1 2 ∷ change Raise 2 1 4 ∷ [])) (emptyBook 3) .layout .cost ≡ 0 ∷ 5 ∷ 3 ∷ 0 ∷ 0 ∷ 0 ∷ 0 ∷ 4 ∷ 0 ∷ [])
-unfolding sumTo joinTo listTo allTo same setOf count visits uses time least extend hops routes leastTime quickest ways through portion share used score filled sized validCosts validPassing uncrowded right touched rule bookRefusal bookAfter bookAnswer bookAnswers run
+unfolding sumTo joinTo listTo allTo same setOf count visits uses time least extend hops routes leastTime quickest ways through portion openShare used score filled sized validCosts validPassing uncrowded right touched rule bookRefusal bookAfter bookAnswer bookAnswers run
 raises-run = (refl, refl, refl)
 
 -- the book of P3's calls, and then of another n, a link that is there already and a cost table that is too short; of an empty hall
@@ -210,5 +210,5 @@ pub book-runs :
     (run bookAfter (calls ++ more) (emptyBook 4) .layout .cost ≡ 0 ∷ 5 ∷ 5 ∷ 0 ∷ 0 ∷ 0 ∷ 0 ∷ 5 ∷ 0 ∷ 0 ∷ 0 ∷ 0 ∷ 0 ∷ 0 ∷ 0 ∷ 0 ∷ []) ×
     (run bookAfter (calls ++ (record { n = 4; ask = emptyHall (noPassing 4) } ∷ [])) (emptyBook 4) .layout .cost ≡ none) ×
     (run bookAfter (calls ++ (record { n = 4; ask = workOut (laid (0 ∷ 7 ∷ drop 2 none) (noPassing 4)) } ∷ [])) (emptyBook 4) .layout .cost ≡ 0 ∷ 7 ∷ drop 2 none)
-unfolding sumTo joinTo listTo allTo same setOf count visits uses time least extend hops routes leastTime quickest ways through portion share used score filled sized validCosts validPassing uncrowded right touched rule bookRefusal bookAfter bookAnswer bookAnswers run
+unfolding sumTo joinTo listTo allTo same setOf count visits uses time least extend hops routes leastTime quickest ways through portion openShare used score filled sized validCosts validPassing uncrowded right touched rule bookRefusal bookAfter bookAnswer bookAnswers run
 book-runs = (refl, refl, refl, refl)

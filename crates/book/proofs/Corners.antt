@@ -6,7 +6,7 @@ use mathlib.Core.Bool.{Bool, true, _&&_, _||_}
 use mathlib.Core.List.{List, [], _∷_, _++_, map}
 use lib.ListN.{replicate, take, drop}
 use lib.Dec.{eqb}
-use Rattle.routes.specs.Route.{mark, sumTo, joinTo, listTo, allTo, same, setOf, count, chosen, ahead, among, inOrder, visits, uses, time, least, extend, hops, routes, leastTime, quickest, ways, quickestRoutes, through, portion, share, used, score}
+use Rattle.routes.specs.Route.{mark, sumTo, joinTo, listTo, allTo, same, setOf, count, chosen, ahead, among, inOrder, visits, uses, time, least, extend, hops, routes, leastTime, quickest, ways, quickestRoutes, through, portion, openShare, used, score}
 use Rattle.book.specs.Hall.{laid, Tables, scale, oldScale, filled, sized, validCosts, validPassing, noPassing, uncrowded, right, touched, routeBytes, routeList, lowFirst, field, imageOf, validRecord, isImage, costsOf}
 use Rattle.book.specs.Call.{Call, Ask, emptyHall, audit, moveOver, workOut, editList, listRoutes, imageWrite, imageRead, number, run, touchedBy, judged, rule, Answer, refusal, after, answer, imageCheck}
 use Rattle.book.specs.Book.{bookRefusal, bookAfter, bookAnswer, bookAnswers}
@@ -146,7 +146,7 @@ corners =
     corner 3 line (read (take 8 lineImage ++ (2 ∷ drop 9 lineImage))) 9 ∷ []
 
 pub corners-hold : map answersSo corners ≡ replicate 83 true
-unfolding answersSo sumTo joinTo listTo allTo same setOf count chosen ahead among inOrder visits uses time least extend hops routes leastTime quickest ways quickestRoutes through portion share used score filled sized validCosts validPassing uncrowded right touched touchedBy judged routeBytes routeList lowFirst field imageOf validRecord isImage costsOf run rule refusal after answer
+unfolding answersSo sumTo joinTo listTo allTo same setOf count chosen ahead among inOrder visits uses time least extend hops routes leastTime quickest ways quickestRoutes through portion openShare used score filled sized validCosts validPassing uncrowded right touched touchedBy judged routeBytes routeList lowFirst field imageOf validRecord isImage costsOf run rule refusal after answer
 corners-hold = refl
 
 -- what accepted calls leave on these tables: no links, the costs brought, those of the image, those of the edit; the tables as they were; and
@@ -156,12 +156,12 @@ pub leaves-so :
     (take 9 (left damaged emptied) ≡ replicate 9 0) × (left (direct 5) (worked lineCosts) ≡ flat line) × (left (direct 5) (read lineImage) ≡ flat line) ×
     (take 9 (left line (change Insert 0 2 5)) ≡ 0 ∷ 1 ∷ 5 ∷ drop 3 lineCosts) × (left line audit ≡ flat line) × (left line (imageWrite (replicate 16 7)) ≡ flat line) ×
     (left oldLine moveOver ≡ flat line)
-unfolding sumTo joinTo listTo allTo same setOf count visits uses time least extend hops routes leastTime quickest ways through portion share used score filled sized validCosts validPassing uncrowded right touched lowFirst field imageOf validRecord isImage costsOf rule refusal after
+unfolding sumTo joinTo listTo allTo same setOf count visits uses time least extend hops routes leastTime quickest ways through portion openShare used score filled sized validCosts validPassing uncrowded right touched lowFirst field imageOf validRecord isImage costsOf rule refusal after
 leaves-so = (refl, refl, refl, refl, refl, refl, refl)
 
 -- an image write answers its length and leaves the bytes past it
 pub writes-so : let a : Answer = answer (record { n = 3; ask = imageWrite (replicate 18 7) }) line in (a .length ≡ 16) × (a .buffer ≡ lineImage ++ (7 ∷ 7 ∷ []))
-unfolding sumTo joinTo listTo allTo same setOf count visits uses time least extend hops routes leastTime quickest ways through portion share used score filled sized validCosts validPassing uncrowded right touched lowFirst imageOf rule refusal answer
+unfolding sumTo joinTo listTo allTo same setOf count visits uses time least extend hops routes leastTime quickest ways through portion openShare used score filled sized validCosts validPassing uncrowded right touched lowFirst imageOf rule refusal answer
 writes-so = (refl, refl)
 
 -- the book of an image that is read, and written again into a buffer that is too short, and into a longer one
@@ -189,7 +189,7 @@ pub book-moves :
     let calls : List Call =
     map (λ a. record { n = 3; ask = a }) (moveOver ∷ worked lineCosts ∷ moveOver ∷ change Delete 1 2 0 ∷ moveOver ∷ []) ++ (record { n = 2; ask = moveOver } ∷ []) in
     (map (λ a. number (a .refusal)) (bookAnswers calls (emptyBook 3)) ≡ 0 ∷ 0 ∷ 3 ∷ 0 ∷ 0 ∷ 2 ∷ []) × (run bookAfter calls (emptyBook 3) .layout .cost ≡ 0 ∷ 1 ∷ replicate 7 0)
-unfolding sumTo joinTo listTo allTo same setOf count visits uses time least extend hops routes leastTime quickest ways through portion share used score filled sized validCosts validPassing uncrowded right touched rule bookRefusal bookAfter bookAnswer bookAnswers run
+unfolding sumTo joinTo listTo allTo same setOf count visits uses time least extend hops routes leastTime quickest ways through portion openShare used score filled sized validCosts validPassing uncrowded right touched rule bookRefusal bookAfter bookAnswer bookAnswers run
 book-moves = (refl, refl)
 
 -- the place that a refused list tells: none for 1, 2, 3 and 12, though its first edit would be refused too
@@ -197,7 +197,7 @@ pub places-so :
     let place : ℕ → Tables → List Edit → ℕ = λ n t edits. answer (record { n = n; ask = editList edits }) t .place in
     (place 0 line (nowhere ∷ []) ∷ place 3 short (nowhere ∷ []) ∷ place 3 damaged (nowhere ∷ []) ∷ place 3 line (replicate 33 nowhere) ∷ [] ≡ replicate 4 0) ×
     (place 3 line (replicate 32 nowhere) ∷ place 3 line (editOf Delete 0 1 0 ∷ nowhere ∷ []) ∷ [] ≡ 1 ∷ 2 ∷ [])
-unfolding sumTo joinTo listTo allTo same setOf count visits uses time least extend hops routes leastTime quickest ways through portion share used score filled sized validCosts validPassing uncrowded right touched touchedBy judged run rule refusal answer
+unfolding sumTo joinTo listTo allTo same setOf count visits uses time least extend hops routes leastTime quickest ways through portion openShare used score filled sized validCosts validPassing uncrowded right touched touchedBy judged run rule refusal answer
 places-so = (refl, refl)
 
 -- image check answers 0, 1 and 9

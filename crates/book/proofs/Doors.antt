@@ -90,7 +90,7 @@ module _ (c : Call) (t : Tables) (fits : sized (c .n) t ≡ true → rule (c .n)
 
 -- an accepted call leaves the tables of the layout that it leaves, and says what it says
 pub accepted-done : (c : Call) (t t′ : Tables) (a : Answer) → refusal c t ≡ Accepted →
-    t′ ≡ filled scale (c .n) (rule (c .n) (c .ask) (t .layout) .leaves) → a ≡ rule (c .n) (c .ask) (t .layout) .says → Done c t t′ a
+    t′ ≡ filled scale mostWays (c .n) (rule (c .n) (c .ask) (t .layout) .leaves) → a ≡ rule (c .n) (c .ask) (t .layout) .says → Done c t t′ a
 unfolding after answer
 accepted-done c t t′ a ok left said = record { left = left ∙ rw ok; answered = said ∙ rw ok }
 
@@ -103,10 +103,10 @@ leaves-tables c t same audits = rw same (go (accepted (refusal c t)) refl)
     r : Rule
     r = rule (c .n) (c .ask) (t .layout)
 
-    go : (b : Bool) → accepted (refusal c t) ≡ b → cond b (filled scale (c .n) (t .layout)) t ≡ t
+    go : (b : Bool) → accepted (refusal c t) ≡ b → cond b (filled scale mostWays (c .n) (t .layout)) t ≡ t
     go true e =
         let (size, lengths, passable, sound, tests) = chain-true (c .n) (r .fits && sized (c .n) t) (validPassing (c .n) (r .lent .passing)) (r .sound t) (r .tests) e in
-        right-true scale mostWays (c .n) t (sym audits ∙ sound) .2
+        right-true scale mostWays (c .n) t (sym audits ∙ sound) .1
     go false e = refl
 
 pub audit-leaves : (n : ℕ) (t : Tables) → after (record { n = n; ask = audit }) t ≡ t

@@ -1,14 +1,15 @@
--- An accepted edit: its set of touched sources, the rows that change, and how the scores move. Assumes nothing.
-use Prim.Native.Nat.{ℕ, _<_}
+-- An accepted edit: its set of touched sources, the rows that stay and those that change, and how the scores move. Assumes nothing.
+use Prim.Native.Nat.{ℕ, suc, _<_, _≤_, min}
 use mathlib.Core.Path.{_≡_, refl, sym, _∙_, ap}
 use mathlib.Core.Logic.{_≢_}
-use mathlib.Core.Bool.{Bool, true, not}
+use mathlib.Core.Bool.{Bool, true, false, not}
 use lib.ListN.{getD}
 use borrow.Author.Tests.{eq-eqb}
-use Rattle.routes.specs.Route.{Costs, allTo, leastTime, ways, share}
+use Rattle.routes.specs.Route.{Costs, allTo, leastTime, ways, cappedWays, openShare}
 use Rattle.routes.proofs.Sums.{all-cong}
-use Rattle.routes.proofs.Touched.{sameEntries, touched-row}
-use Rattle.book.specs.Hall.{Layout, scale, table, entry, filled, touched, costsIn}
+use Rattle.routes.proofs.Touched.{sameEntries, untouched, touched-row}
+use Rattle.routes.proofs.Shared.{open-share, open-ways}
+use Rattle.book.specs.Hall.{Layout, mostWays, scale, table, entry, filled, touched, costsIn}
 use Rattle.book.specs.Call.{Call, edit, accepted, costSet, withEdit, rule, refusal, after, answer}
 use Rattle.book.specs.Book.{Book, tablesOf, EditFacts, changed}
 use Rattle.book.specs.declared.Edit.{Edit}
@@ -17,7 +18,8 @@ use Rattle.book.proofs.Tables.{entry-table, only-set}
 use Rattle.book.proofs.Passed.{Permitted, permitted}
 use Rattle.book.proofs.Steps.{Held, entry-edited, held-edited, accepted-book, refusal-book}
 use Rattle.book.proofs.Reversals.{rule-reversed}
-use Rattle.book.proofs.Sets.{member, set-facts}
+use Rattle.book.proofs.Sets.{same-row, member, set-facts}
+use Rattle.book.proofs.Uncrowded.{few-ways}
 use Rattle.book.proofs.Small.{dearest, within, small, workable}
 use Rattle.routes.proofs.Passing.{only-from, differs-from}
 
@@ -65,27 +67,48 @@ module _ (n : ℕ) (e : Edit) (lay : Layout) (h : Held n lay) (ok : accepted (ru
       touched-row (W s) (W′ s) n s dearest hs (within (workable h) s) (within (workable (held-edited n e lay h p)) s) (small (workable h))
       u v (p .from) (p .to) (differs s) (others s) scale
 
-  -- which are those whose row of the tables changes
-  pub row-changed : (s : ℕ) → s < n → changed n (filled scale n lay) (filled scale n left) s ≡ touches s
-  unfolding changed filled
-  row-changed s hs = ap not (all-cong n (λ x hx. rw (
-    at (λ s. leastTime (W s) n s) x hx,
-    at (λ s. leastTime (W′ s) n s) x hx,
-    at (λ s. ways (W s) n s) x hx,
-    at (λ s. ways (W′ s) n s) x hx,
-    at (λ s. share (W s) n s scale) x hx,
-    at (λ s. share (W′ s) n s scale) x hx,
-  ))) ∙ sym (row-touched s hs)
+  -- the row of a source that is not touched stays, whatever pairs are crowded
+  pub row-kept : (s : ℕ) → s < n → touches s ≡ false → changed n (filled scale mostWays n lay) (filled scale mostWays n left) s ≡ false
+  unfolding touched filled
+  row-kept s hs away =
+      let R = untouched (W s) (W′ s) n s dearest hs (within (workable h) s) (within (workable (held-edited n e lay h p)) s) (small (workable h))
+      u v (p .from) (p .to) (differs s) (others s) away in
+      same-row n (filled scale mostWays n lay) (filled scale mostWays n left) s (record {
+        time = λ x hx. at (λ s. leastTime (W s) n s) x hx ∙ R .times x hx ∙ sym (at (λ s. leastTime (W′ s) n s) x hx);
+        ways = λ x hx.
+            at (λ s. cappedWays (W s) n s mostWays) x hx ∙ ap (min (suc mostWays)) (R .counts x hx) ∙
+            sym (at (λ s. cappedWays (W′ s) n s mostWays) x hx);
+        share = λ x hx.
+            at (λ s. openShare (W s) n s mostWays scale) x hx ∙ R .openShares mostWays scale x hx ∙
+            sym (at (λ s. openShare (W′ s) n s mostWays scale) x hx);
+      })
     where
       at : (f : ℕ → ℕ → ℕ) (x : ℕ) → x < n → entry n (table n f) s x ≡ f s x
       at f x hx = entry-table n f s x hs hx
 
+  -- the row of a source of which no pair is crowded before or after changes exactly if it is touched
+  module _ (s : ℕ) (hs : s < n) (few : (t : ℕ) → t < n → ways (W s) n s t ≤ mostWays) (few′ : (t : ℕ) → t < n → ways (W′ s) n s t ≤ mostWays) where
+    at : (f : ℕ → ℕ → ℕ) {y : ℕ} (x : ℕ) → x < n → f s x ≡ y → entry n (table n f) s x ≡ y
+    at f x hx e = entry-table n f s x hs hx ∙ e
+
+    pub row-changed : changed n (filled scale mostWays n lay) (filled scale mostWays n left) s ≡ touches s
+    unfolding changed filled
+    row-changed = ap not (all-cong n (λ x hx. rw (
+      at (λ s. leastTime (W s) n s) x hx refl,
+      at (λ s. leastTime (W′ s) n s) x hx refl,
+      at (λ s. cappedWays (W s) n s mostWays) x hx (open-ways (W s) n s mostWays few x hx),
+      at (λ s. cappedWays (W′ s) n s mostWays) x hx (open-ways (W′ s) n s mostWays few′ x hx),
+      at (λ s. openShare (W s) n s mostWays scale) x hx (open-share (W s) n s mostWays few scale x),
+      at (λ s. openShare (W′ s) n s mostWays scale) x hx (open-share (W′ s) n s mostWays few′ scale x),
+    ))) ∙ sym (row-touched s hs)
+
   -- the promises of demand 3 for this edit
-  edited-rule : EditFacts n e (filled scale n lay) (filled scale n left) (rule n (edit e) lay .says)
+  edited-rule : EditFacts n e (filled scale mostWays n lay) (filled scale mostWays n left) (rule n (edit e) lay .says)
   unfolding filled rule
   edited-rule = record {
-    set = set-facts n touches lay left (entry n (lay .cost) u v) (workable h .most) (λ s hs away. row-changed s hs ∙ away);
-    changes = λ s hs. row-changed s hs ∙ sym (member n touches s hs);
+    set = set-facts n touches lay left (entry n (lay .cost) u v) (workable h .most) row-kept;
+    changes = λ few few′ s hs.
+        row-changed s hs (λ t l. few-ways mostWays n lay few s t hs l) (λ t l. few-ways mostWays n left few′ s t hs l) ∙ sym (member n touches s hs);
     tells = refl;
     reverses = rule-reversed n e lay h ok;
   }

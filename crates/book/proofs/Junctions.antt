@@ -4,8 +4,8 @@ use mathlib.Core.Path.{_≡_, refl}
 use mathlib.Core.Bool.{true}
 use mathlib.Core.List.{List, [], _∷_, _++_, map}
 use lib.ListN.{replicate, take, drop}
-use Rattle.routes.specs.Route.{sumTo, joinTo, listTo, allTo, same, setOf, count, chosen, ahead, among, inOrder, visits, uses, time, least, extend, hops, routes, leastTime, quickest, ways, quickestRoutes, through, portion, share, used, score}
-use Rattle.book.specs.Hall.{Layout, laid, Tables, scale, filled, sized, validCosts, validPassing, linksAlone, uncrowded, right, touched, routeBytes, routeList, lowFirst, field, imageOf, validRecord, isImage, costsOf}
+use Rattle.routes.specs.Route.{sumTo, joinTo, listTo, allTo, same, setOf, count, chosen, ahead, among, inOrder, visits, uses, time, least, extend, hops, routes, leastTime, quickest, ways, quickestRoutes, through, portion, openShare, used, score}
+use Rattle.book.specs.Hall.{Layout, laid, Tables, mostWays, scale, filled, sized, validCosts, validPassing, linksAlone, uncrowded, right, touched, routeBytes, routeList, lowFirst, field, imageOf, validRecord, isImage, costsOf}
 use Rattle.book.specs.Call.{Call, Ask, emptyHall, audit, moveOver, workOut, edit, editList, listRoutes, imageWrite, imageRead, number, run, touchedBy, judged, withLayout, rule, Answer, refusal, after, answer}
 use Rattle.book.specs.Book.{Book, Step, kept, bookRefusal, bookAfter, bookAnswer, bookAnswers}
 use Rattle.book.proofs.Sequence.{stepsOf}
@@ -29,17 +29,17 @@ forkTables x t w over₁ over₂ = record {
 }
 
 -- the way over 1 has the cheaper links; a passing time of 7 makes the other one quicker, and one of 3 makes a tie
-pub junction-slow : (filled scale 4 (fork 2) ≡ forkTables 2 6 1 scale 0) × (filled scale 4 (fork 7) ≡ forkTables 7 7 1 0 scale)
-unfolding sumTo joinTo listTo count visits time least extend hops routes leastTime quickest ways through portion share score filled
+pub junction-slow : (filled scale mostWays 4 (fork 2) ≡ forkTables 2 6 1 scale 0) × (filled scale mostWays 4 (fork 7) ≡ forkTables 7 7 1 0 scale)
+unfolding sumTo joinTo listTo count visits time least extend hops routes leastTime quickest ways through portion openShare score filled
 junction-slow = (refl, refl)
 
-pub junction-tie : filled scale 4 (fork 3) ≡ forkTables 3 7 2 (scale / 2) (scale / 2)
-unfolding sumTo joinTo listTo count visits time least extend hops routes leastTime quickest ways through portion share score filled
+pub junction-tie : filled scale mostWays 4 (fork 3) ≡ forkTables 3 7 2 (scale / 2) (scale / 2)
+unfolding sumTo joinTo listTo count visits time least extend hops routes leastTime quickest ways through portion openShare score filled
 junction-tie = refl
 
 -- on the line from 0 over 1 to 2, passing times of 0 and 2 count for nothing, however long: these stops are ends only
-pub ends-uncounted : let l : Layout = laid lineCosts (65535 ∷ 0 ∷ 9 ∷ []) in filled scale 3 l ≡ withLayout l line
-unfolding sumTo joinTo listTo count visits time least extend hops routes leastTime quickest ways through portion share score filled
+pub ends-uncounted : let l : Layout = laid lineCosts (65535 ∷ 0 ∷ 9 ∷ []) in filled scale mostWays 3 l ≡ withLayout l line
+unfolding sumTo joinTo listTo count visits time least extend hops routes leastTime quickest ways through portion openShare score filled
 ends-uncounted = refl
 
 -- route lists by these times: over 2, over both, and with links alone over 1; and the one way from 1 to 2
@@ -87,7 +87,7 @@ corners =
     corner 3 (beside tooLong oldLine) moveOver 0 ∷ []
 
 pub passing-corners : map answersSo corners ≡ replicate 24 true
-unfolding answersSo sumTo joinTo listTo allTo same setOf count chosen ahead among inOrder visits uses time least extend hops routes leastTime quickest ways quickestRoutes through portion share used score filled sized validCosts validPassing uncrowded right touched touchedBy judged routeBytes routeList lowFirst field imageOf validRecord isImage costsOf run rule refusal after answer
+unfolding answersSo sumTo joinTo listTo allTo same setOf count chosen ahead among inOrder visits uses time least extend hops routes leastTime quickest ways quickestRoutes through portion openShare used score filled sized validCosts validPassing uncrowded right touched touchedBy judged routeBytes routeList lowFirst field imageOf validRecord isImage costsOf run rule refusal after answer
 passing-corners = refl
 
 -- an empty hall with passing times, the links of the fork, and a route list; a work out that brings other passing times, and a refused empty
@@ -113,8 +113,8 @@ pub passing-brought :
     (listed (bookAnswers calls (emptyBook 4)) ≡
     [] ∷ [] ∷ (1 ∷ 3 ∷ 0 ∷ 2 ∷ 3 ∷ []) ∷ [] ∷ [] ∷ [] ∷ [] ∷ (2 ∷ 3 ∷ 0 ∷ 1 ∷ 3 ∷ 3 ∷ 0 ∷ 2 ∷ 3 ∷ []) ∷ [] ∷ (1 ∷ 3 ∷ 0 ∷ 1 ∷ 3 ∷ []) ∷ []) ×
     (at 2 ∷ at 4 ∷ at 7 ∷ at 9 ∷ [] ≡ fork 7 ∷ fork 3 ∷ fork 3 ∷ fork 2 ∷ []) ×
-    (map (λ s. s .answer) steps ≡ bookAnswers calls (emptyBook 4)) × (run kept steps (sevens 4) ≡ filled scale 4 (fork 2))
-unfolding sumTo joinTo listTo allTo same setOf count chosen ahead among inOrder visits uses time least extend hops routes leastTime quickest ways quickestRoutes through portion share used score filled sized validCosts validPassing uncrowded right touched touchedBy judged routeBytes routeList lowFirst field imageOf validRecord isImage costsOf run rule refusal after answer bookRefusal bookAfter bookAnswer bookAnswers stepsOf
+    (map (λ s. s .answer) steps ≡ bookAnswers calls (emptyBook 4)) × (run kept steps (sevens 4) ≡ filled scale mostWays 4 (fork 2))
+unfolding sumTo joinTo listTo allTo same setOf count chosen ahead among inOrder visits uses time least extend hops routes leastTime quickest ways quickestRoutes through portion openShare used score filled sized validCosts validPassing uncrowded right touched touchedBy judged routeBytes routeList lowFirst field imageOf validRecord isImage costsOf run rule refusal after answer bookRefusal bookAfter bookAnswer bookAnswers stepsOf
 passing-brought = (refl, refl, refl, refl, refl)
 
 -- from 0 to 2 a link of cost c, and two of 1 over stop 1, which takes 5 to pass
@@ -124,12 +124,12 @@ shortcut c = laid (0 ∷ 1 ∷ c ∷ 0 ∷ 0 ∷ 1 ∷ 0 ∷ 0 ∷ 0 ∷ []) (4 
 -- the moving call, where with passing times every share is 0: with a link of 1 it leaves all tables and passing times as they are; with one
 -- of 3 the time of that pair would be 2 with links alone, so it says 3; the book says the same
 pub passing-moves :
-    let t : ℕ → Tables = λ c. filled scale 3 (shortcut c) in
+    let t : ℕ → Tables = λ c. filled scale mostWays 3 (shortcut c) in
     let steps : ℕ → List Step = λ c. stepsOf (moving 3 ∷ []) (t c) in
     let said : ℕ → List Answer = λ c. map (λ s. s .answer) (steps c) in
     let book : ℕ → Book = λ c. record { stops = 3; layout = shortcut c } in
     (t 1 .share ∷ t 3 .share ∷ [] ≡ replicate 2 (replicate 9 0)) × (map (λ a. number (a .refusal)) (said 1 ++ said 3) ≡ 0 ∷ 3 ∷ []) ×
     (run kept (steps 1) (t 1) ≡ t 1) × (run kept (steps 3) (t 3) ≡ t 3) × (said 1 ≡ bookAnswers (moving 3 ∷ []) (book 1)) × (said 3 ≡ bookAnswers (moving 3 ∷ []) (book 3)) ×
     (bookAfter (moving 3) (book 1) ≡ book 1)
-unfolding sumTo joinTo listTo allTo same count visits time least extend hops routes leastTime quickest ways through portion share score filled sized validCosts validPassing uncrowded right run rule refusal after answer bookRefusal bookAfter bookAnswer bookAnswers stepsOf
+unfolding sumTo joinTo listTo allTo same count visits time least extend hops routes leastTime quickest ways through portion openShare score filled sized validCosts validPassing uncrowded right run rule refusal after answer bookRefusal bookAfter bookAnswer bookAnswers stepsOf
 passing-moves = (refl, refl, refl, refl, refl, refl, refl)

@@ -10,6 +10,7 @@ pub mod Writer
 pub mod Images
 pub mod NoLinks
 pub mod Filled
+pub mod Uncrowded
 pub mod Alone
 pub mod Passed
 pub mod Places

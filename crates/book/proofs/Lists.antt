@@ -25,7 +25,7 @@ use Rattle.book.proofs.Answers.{answer-refusal, reply-either}
 use Rattle.book.proofs.Places.{none-told, edit-tells, accepted-place}
 use Rattle.book.proofs.Steps.{Held, held-right, held-edited, accepted-book, refusal-book}
 use Rattle.book.proofs.Sets.{same-row, row-stays, set-facts}
-use Rattle.book.proofs.Edits.{row-changed}
+use Rattle.book.proofs.Edits.{row-kept}
 use Rattle.book.proofs.Doors.{leaves-tables}
 
 neither : (a b : Bool) → (a || b) ≡ false → (a ≡ false) × (b ≡ false)
@@ -34,19 +34,19 @@ neither true b e = absurd (both refl e)
 
 -- a row that no edit of the list touches is the old one
 pub list-stays : (n k : ℕ) (edits : List Edit) (lay : Layout) → Held n lay → accepted (judged n k edits lay .refusal) ≡ true →
-    (s : ℕ) → s < n → touchedBy n edits lay s ≡ false → changed n (filled scale n lay) (filled scale n (withEdits n edits lay)) s ≡ false
+    (s : ℕ) → s < n → touchedBy n edits lay s ≡ false → changed n (filled scale mostWays n lay) (filled scale mostWays n (withEdits n edits lay)) s ≡ false
 unfolding run touchedBy rule
 list-stays n k [] lay h ok s hs away = same-row n _ _ s (record { time = λ x l. refl; ways = λ x l. refl; share = λ x l. refl })
 list-stays n k (e ∷ rest) lay h ok s hs away =
     let lay′ : Layout = withEdit n e lay in
     let (first, then) = judged-true n k e rest lay ok in
     let (here, later) = neither (touched n lay lay′ (e .u) (e .v) s) (touchedBy n rest lay′ s) away in
-    row-stays n (filled scale n lay) (filled scale n lay′) _ s (row-changed n e lay h first s hs ∙ here)
+    row-stays n (filled scale mostWays n lay) (filled scale mostWays n lay′) _ s (row-kept n e lay h first s hs here)
     (list-stays n (k + 1) rest lay′ (held-edited n e lay h (permitted n e lay first)) then s hs later)
 
 -- the promises of demand 3 for an accepted list
 listed-rule : (n : ℕ) (edits : List Edit) (lay : Layout) → Held n lay → accepted (rule n (editList edits) lay .tests) ≡ true →
-    SetFacts n (touchedBy n edits lay) (filled scale n lay) (filled scale n (withEdits n edits lay)) (rule n (editList edits) lay .says)
+    SetFacts n (touchedBy n edits lay) (filled scale mostWays n lay) (filled scale mostWays n (withEdits n edits lay)) (rule n (editList edits) lay .says)
 unfolding rule
 listed-rule n edits lay h ok =
     let (short, judged) = need-true (leb (length edits) mostEdits) ListTooLong _ refl ok in
@@ -80,40 +80,40 @@ namedBy n (e ∷ rest) t s = has (answer (one n e) t .touched) s || namedBy n re
 -- an edit on the tables of a hall
 module _ (n : ℕ) (e : Edit) (lay : Layout) (h : Held n lay) where
   abbrev here : Tables
-  here = filled scale n lay
+  here = filled scale mostWays n lay
 
-  one-refusal : refusal (one n e) here ≡ editRefusal n e lay
+  one-refusal : refusal (one n e) here ≡ editRefusal n e (lay .cost)
   unfolding refusal rule filled
   one-refusal =
-      rw (h .size, sized-filled scale n n lay (h .square) (h .long) ∙ eq-eqb n n refl, h .passable, right-filled scale mostWays n lay (h .valid) (h .few))
+      rw (h .size, sized-filled scale mostWays n n lay (h .square) (h .long) ∙ eq-eqb n n refl, h .passable, right-filled scale mostWays n lay (h .valid))
 
-  one-after : accepted (editRefusal n e lay) ≡ true → after (one n e) here ≡ filled scale n (withEdit n e lay)
+  one-after : accepted (editRefusal n e (lay .cost)) ≡ true → after (one n e) here ≡ filled scale mostWays n (withEdit n e lay)
   unfolding after rule filled
   one-after ok = rw (one-refusal, ok)
 
-  one-names : accepted (editRefusal n e lay) ≡ true → (s : ℕ) → has (answer (one n e) here .touched) s ≡ (ltb s n && touched n lay (withEdit n e lay) (e .u) (e .v) s)
+  one-names : accepted (editRefusal n e (lay .cost)) ≡ true → (s : ℕ) → has (answer (one n e) here .touched) s ≡ (ltb s n && touched n lay (withEdit n e lay) (e .u) (e .v) s)
   unfolding answer rule filled
   one-names ok s = rw (one-refusal, ok) (has-setOf n (touched n lay (withEdit n e lay) (e .u) (e .v)) s)
 
 -- so the edits one after another are judged as the list is, and leave and name what it leaves and names
-turn-judged : (n k : ℕ) (edits : List Edit) (lay : Layout) → Held n lay → inTurn n k edits (filled scale n lay) ≡ judged n k edits lay
+turn-judged : (n k : ℕ) (edits : List Edit) (lay : Layout) → Held n lay → inTurn n k edits (filled scale mostWays n lay) ≡ judged n k edits lay
 unfolding inTurn judged rule
 turn-judged n k [] lay h = refl
 turn-judged n k (e ∷ rest) lay h =
-    rw (one-refusal n e lay h) (go (accepted (editRefusal n e lay)) refl (λ ok.
+    rw (one-refusal n e lay h) (go (accepted (editRefusal n e (lay .cost))) refl (λ ok.
     rw (one-after n e lay h ok) (turn-judged n (k + 1) rest (withEdit n e lay) (held-edited n e lay h (permitted n e lay ok)))))
   where
     stopped : Verdict
-    stopped = record { refusal = editRefusal n e lay; place = k }
+    stopped = record { refusal = editRefusal n e (lay .cost); place = k }
 
-    go : (b : Bool) → accepted (editRefusal n e lay) ≡ b →
-        (accepted (editRefusal n e lay) ≡ true → inTurn n (k + 1) rest (after (one n e) (filled scale n lay)) ≡ judged n (k + 1) rest (withEdit n e lay)) →
-        cond b (inTurn n (k + 1) rest (after (one n e) (filled scale n lay))) stopped ≡ cond b (judged n (k + 1) rest (withEdit n e lay)) stopped
+    go : (b : Bool) → accepted (editRefusal n e (lay .cost)) ≡ b →
+        (accepted (editRefusal n e (lay .cost)) ≡ true → inTurn n (k + 1) rest (after (one n e) (filled scale mostWays n lay)) ≡ judged n (k + 1) rest (withEdit n e lay)) →
+        cond b (inTurn n (k + 1) rest (after (one n e) (filled scale mostWays n lay))) stopped ≡ cond b (judged n (k + 1) rest (withEdit n e lay)) stopped
     go true ok more = more ok
     go false ok more = refl
 
 turn-left : (n k : ℕ) (edits : List Edit) (lay : Layout) → Held n lay → accepted (judged n k edits lay .refusal) ≡ true →
-    run (λ e. after (one n e)) edits (filled scale n lay) ≡ filled scale n (withEdits n edits lay)
+    run (λ e. after (one n e)) edits (filled scale mostWays n lay) ≡ filled scale mostWays n (withEdits n edits lay)
 unfolding run rule
 turn-left n k [] lay h ok = refl
 turn-left n k (e ∷ rest) lay h ok =
@@ -121,7 +121,7 @@ turn-left n k (e ∷ rest) lay h ok =
     rw (one-after n e lay h first) (turn-left n (k + 1) rest (withEdit n e lay) (held-edited n e lay h (permitted n e lay first)) then)
 
 turn-named : (n k : ℕ) (edits : List Edit) (lay : Layout) → Held n lay → accepted (judged n k edits lay .refusal) ≡ true → (s : ℕ) →
-    (ltb s n && touchedBy n edits lay s) ≡ namedBy n edits (filled scale n lay) s
+    (ltb s n && touchedBy n edits lay s) ≡ namedBy n edits (filled scale mostWays n lay) s
 unfolding touchedBy namedBy rule
 turn-named n k [] lay h ok s = and-false (ltb s n)
 turn-named n k (e ∷ rest) lay h ok s =
@@ -136,12 +136,12 @@ turn-named n k (e ∷ rest) lay h ok s =
 
 module _ (n : ℕ) (edits : List Edit) (lay : Layout) (h : Held n lay) (few : length edits ≤ mostEdits) where
   abbrev there : Tables
-  there = filled scale n lay
+  there = filled scale mostWays n lay
 
   verdict-of : refusal (list n edits) there ≡ judged n 1 edits lay .refusal
   unfolding refusal rule filled
   verdict-of =
-      rw (h .size, sized-filled scale n n lay (h .square) (h .long) ∙ eq-eqb n n refl, h .passable, right-filled scale mostWays n lay (h .valid) (h .few), le-leb (length edits) mostEdits few)
+      rw (h .size, sized-filled scale mostWays n n lay (h .square) (h .long) ∙ eq-eqb n n refl, h .passable, right-filled scale mostWays n lay (h .valid), le-leb (length edits) mostEdits few)
 
   place-of : answer (list n edits) there .place ≡ judged n 1 edits lay .place
   unfolding answer rule filled
@@ -178,7 +178,7 @@ pub list-in-turn : (n : ℕ) (edits : List Edit) (t : Tables) → Audited n t �
     (a .rows ≡ sumTo n (λ s. cond (namedBy n edits t s) 1 0)))
 list-in-turn n edits t sound few =
     let h = held-right n t (sound .inside .size) (sound .inside .lengths) (sound .inside .passable) (sound .sound) in
-    let filling = right-true scale mostWays n t (sound .sound) .2 in
+    let filling = right-true scale mostWays n t (sound .sound) .1 in
     rw filling at (in-turn n edits (t .layout) h few)
 
 -- on any tables on which it is accepted, which are right by that, a list has the facts of demand 3: rows outside the union are the old
@@ -189,12 +189,12 @@ unfolding after answer rule
 list-facts n edits t ok =
     let (size, lengths, tests) = passed (list n edits) t ok in
     let sound : right scale mostWays n t ≡ true = audited (list n edits) t ok in
-    let same = right-true scale mostWays n t sound .2 in
+    let same = right-true scale mostWays n t sound .1 in
     rw ok (rw same at (listed-rule n edits (t .layout) (held-right n t size lengths (brief (list n edits) t ok) sound) tests))
 
--- refused with 1, 2, 13, 3 or 12 a list tells no place
+-- refused with 1, 2, 13, 3 or 12, and with whatever is no refusal of an edit, a list tells no place
 pub list-unplaced : (n : ℕ) (edits : List Edit) (t : Tables) → let r : Refusal = refusal (list n edits) t in
-    (ltb (number r) 4 || ltb 11 (number r)) ≡ true → answer (list n edits) t .place ≡ 0
+    (ltb (number r) 4 || ltb 8 (number r)) ≡ true → answer (list n edits) t .place ≡ 0
 unfolding answer rule
 list-unplaced n edits t e =
     reply-either (λ a. a .place ≡ 0) (refusal (list n edits) t) (rule n (editList edits) (t .layout)) (λ ok. refl) (none-told (refusal (list n edits) t) (judged n 1 edits (t .layout) .place) e)
@@ -224,13 +224,13 @@ list-none n t = (answer-refusal (list n []) t, said .0, said .1, said .2, leaves
 
 -- a list of one edit is that edit, but for the place
 module _ (n : ℕ) (e : Edit) (t : Tables) where
-  alone : judged n 1 (e ∷ []) (t .layout) .refusal ≡ editRefusal n e (t .layout)
+  alone : judged n 1 (e ∷ []) (t .layout) .refusal ≡ editRefusal n e (t .layout .cost)
   unfolding judged
-  alone = go (accepted (editRefusal n e (t .layout))) refl
+  alone = go (accepted (editRefusal n e (t .layout .cost))) refl
     where
-      go : (b : Bool) → accepted (editRefusal n e (t .layout)) ≡ b →
-          cond {A = Verdict} b (record { refusal = Accepted; place = 0 }) (record { refusal = editRefusal n e (t .layout); place = 1 }) .refusal ≡ editRefusal n e (t .layout)
-      go true ok = sym (accepted-only (editRefusal n e (t .layout)) ok)
+      go : (b : Bool) → accepted (editRefusal n e (t .layout .cost)) ≡ b →
+          cond {A = Verdict} b (record { refusal = Accepted; place = 0 }) (record { refusal = editRefusal n e (t .layout .cost); place = 1 }) .refusal ≡ editRefusal n e (t .layout .cost)
+      go true ok = sym (accepted-only (editRefusal n e (t .layout .cost)) ok)
       go false shut = refl
 
   same-refusal : refusal (list n (e ∷ [])) t ≡ refusal (one n e) t

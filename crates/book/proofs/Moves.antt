@@ -2,105 +2,113 @@
 -- it says to the tables of a book. Assumes nothing.
 use Prim.Native.Nat.{ℕ, _+_, _*_, _/_, _<_, _≤_}
 use native.Mathlib.Nat.{mul-div-cancel-left}
+use native.Mathlib.Decide.{ℕ-discrete}
 use native.Mathlib.Omega.{arith}
 use mathlib.Core.Path.{_≡_, refl, sym, _∙_, ap, subst, subst⁻¹}
-use mathlib.Core.Bool.{Bool, true, false, cond, _&&_}
+use mathlib.Core.Logic.{_≢_}
+use mathlib.Core.Bool.{Bool, true, false, cond, _&&_, and-eq-true-iff}
 use mathlib.Core.List.{List}
-use lib.Dec.{leb, lit<}
+use lib.Dec.{leb, lit<, lit≤}
 use lib.ListN.{length, length-map, List·getD-map, length-replicate}
-use borrow.Author.Tests.{eq-eqb, leb-true, le-leb}
-use Rattle.routes.specs.Route.{Costs, listTo, allTo, leastTime, ways, share, score}
-use Rattle.routes.proofs.Sums.{sumTo-zero, all-true, all-of, all-cong}
-use Rattle.routes.proofs.Lists.{same-refl}
+use borrow.Author.Tests.{eq-eqb, ltb-true}
+use Rattle.routes.specs.Route.{Costs, listTo, allTo, leastTime, ways, through, openShare, score}
+use Rattle.routes.proofs.Sums.{sumTo-cong, sumTo-zero, sumTo-mul-left}
+use Rattle.routes.proofs.Flows.{Flows}
+use Rattle.routes.proofs.Shared.{open-share}
+use Rattle.routes.proofs.Between.{none-back, none-between, none-through}
 use Rattle.routes.proofs.Rows.{length-listTo, getD-listTo, listTo-of, listTo-cong}
-use Rattle.routes.proofs.Scales.{share-scaled, score-scaled}
-use Rattle.book.specs.Hall.{Layout, Tables, mostStops, mostWays, scale, oldMostWays, oldScale, oldPerNew, divided, upTo, table, entry, filled, sized, validCosts, uncrowded, right, costsIn, linksAlone}
-use Rattle.book.specs.Call.{Call, moveOver, workOut, accepted, need, waysTest, rule, refusal, after, withLayout}
+use Rattle.routes.proofs.Scales.{share-scaled, share-more}
+use Rattle.book.specs.Hall.{Layout, Tables, mostStops, mostWays, scale, oldMostWays, oldScale, oldPerNew, divided, upTo, table, entry, filled, sized, validCosts, crowdedPair, uncrowded, right, costsIn, linksAlone}
+use Rattle.book.specs.Call.{Call, moveOver, workOut, accepted, need, rule, refusal, after, withLayout}
 use Rattle.book.specs.Book.{Book, tablesOf, bookRefusal, bookAfter}
 use Rattle.book.specs.declared.Refusal.the-variants.{Accepted, BadTables, TooManyWays}
 use Rattle.book.proofs.Tables.{length-table, entry-table, table-of, table-cong}
 use Rattle.book.proofs.Filled.{sized-filled, right-filled, right-true}
-use Rattle.book.proofs.Passed.{passed, audited}
+use Rattle.book.proofs.Passed.{need-true, passed, audited}
 use Rattle.book.proofs.Calls.{whole}
 use Rattle.book.proofs.Steps.{Held, held-worked, accepted-filled, held-old, none-brief}
 use Rattle.book.proofs.Alone.{same-ways, same-shares}
-
--- no pair has more than m ways: so say the entries of the table of ways
-few-entries : (L m n : ℕ) (lay : Layout) → allTo n (λ s. allTo n (λ v. leb (entry n (filled L n lay .ways) s v) m)) ≡ uncrowded m n lay
-unfolding filled uncrowded
-few-entries L m n lay = all-cong n (λ s k. all-cong n (λ v l. ap (λ x. leb x m) (entry-table n (λ s. ways (costsIn n lay s) n s) s v k l)))
+use Rattle.book.proofs.Uncrowded.{few-ways, ways-few, few-more, few-entries}
+use Rattle.book.proofs.Small.{Workable, workable, flow}
 
 -- the shares of a hall, and that none is above 0
-share-entry : (n : ℕ) (lay : Layout) (L s v : ℕ) → s < n → v < n → entry n (filled L n lay .share) s v ≡ share (costsIn n lay s) n s L v
+share-entry : (n : ℕ) (lay : Layout) (L m s v : ℕ) → s < n → v < n → entry n (filled L m n lay .share) s v ≡ openShare (costsIn n lay s) n s m L v
 unfolding filled
-share-entry n lay L s v k l = entry-table n (λ s. share (costsIn n lay s) n s L) s v k l
+share-entry n lay L m s v k l = entry-table n (λ s. openShare (costsIn n lay s) n s m L) s v k l
 
 abbrev pub NoShares : ℕ → Layout → Type 0
-NoShares n lay = (s v : ℕ) → s < n → v < n → entry n (filled scale n lay .share) s v ≡ 0
+NoShares n lay = (s v : ℕ) → s < n → v < n → entry n (filled scale mostWays n lay .share) s v ≡ 0
 
 back : (x : ℕ) → oldPerNew * x / oldPerNew ≡ x
 back x = mul-div-cancel-left x (lit< tt)
+
+-- by the old scale a share is 8,398 times what it is by the new one, by one limit of ways, and no less by the old limit
+shares-scaled : (W : Costs) (n s v : ℕ) → openShare W n s mostWays oldScale v ≡ oldPerNew * openShare W n s mostWays scale v
+shares-scaled W n s v = share-scaled n mostWays scale oldPerNew whole W s v
+
+old-more : (W : Costs) (n s v : ℕ) → oldPerNew * openShare W n s mostWays scale v ≤ openShare W n s oldMostWays oldScale v
+old-more W n s v = omega (arith, shares-scaled W n s v, share-more W n s mostWays oldMostWays oldScale v (lit≤ tt))
 
 -- a hall in which no pair has more than 12 ways
 module _ (n : ℕ) (lay : Layout) (few : uncrowded mostWays n lay ≡ true) where
   abbrev W : ℕ → Costs
   W = costsIn n lay
 
-  few-ways : (s t : ℕ) → s < n → t < n → ways (W s) n s t ≤ mostWays
-  unfolding uncrowded
-  few-ways s t k l = leb-true (ways (W s) n s t) mostWays (all-true n _ (all-true n _ few s k) t l)
-
   -- the old limit is kept too
   few-old : uncrowded oldMostWays n lay ≡ true
-  unfolding uncrowded
-  few-old = all-of n _ (λ s k. all-of n _ (λ t l. le-leb (ways (W s) n s t) oldMostWays (omega (arith, few-ways s t k l))))
+  few-old = few-more mostWays oldMostWays n lay (lit≤ tt) few
 
-  -- by the old scale a share and a score are 8,398 times what they are by the new one
-  old-share : (s v : ℕ) → s < n → share (W s) n s oldScale v ≡ oldPerNew * share (W s) n s scale v
-  old-share s v k = share-scaled (W s) n scale oldPerNew s v (λ t l some. whole (ways (W s) n s t) some (few-ways s t k l))
+  -- by the old numbers a share and a score are 8,398 times what they are by the new ones
+  old-share : (s v : ℕ) → s < n → openShare (W s) n s oldMostWays oldScale v ≡ oldPerNew * openShare (W s) n s mostWays scale v
+  old-share s v k =
+      open-share (W s) n s oldMostWays (λ t l. few-ways oldMostWays n lay few-old s t k l) oldScale v ∙
+      sym (open-share (W s) n s mostWays (λ t l. few-ways mostWays n lay few s t k l) oldScale v) ∙ shares-scaled (W s) n s v
 
-  old-score : (v : ℕ) → score W n oldScale v ≡ oldPerNew * score W n scale v
-  old-score v = score-scaled W n scale oldPerNew v (λ s t k l some. whole (ways (W s) n s t) some (few-ways s t k l))
+  old-score : (v : ℕ) → score W n oldMostWays oldScale v ≡ oldPerNew * score W n mostWays scale v
+  unfolding score
+  old-score v = sumTo-cong n (λ s k. old-share s v k) ∙ sumTo-mul-left n oldPerNew (λ s. openShare (W s) n s mostWays scale v)
 
-  -- so division gives the tables of the new one
-  shares-divided : divided (filled oldScale n lay .share) ≡ filled scale n lay .share
+  -- times and ways are the same
+  old-ways : filled oldScale oldMostWays n lay .ways ≡ filled scale mostWays n lay .ways
+  unfolding filled
+  old-ways = table-cong n _ _ (λ s t k l. omega (arith, few-ways mostWays n lay few s t k l))
+
+  -- so division gives the tables of the new ones
+  shares-divided : divided (filled oldScale oldMostWays n lay .share) ≡ filled scale mostWays n lay .share
   unfolding filled
   shares-divided =
-      let old : List ℕ = table n (λ s. share (W s) n s oldScale) in
-      table-of n (λ s. share (W s) n s scale) (divided old) (length-map old (λ x. x / oldPerNew) ∙ length-table n (λ s. share (W s) n s oldScale))
+      let f : ℕ → ℕ → ℕ = λ s. openShare (W s) n s oldMostWays oldScale in
+      let old : List ℕ = table n f in
+      table-of n (λ s. openShare (W s) n s mostWays scale) (divided old) (length-map old (λ x. x / oldPerNew) ∙ length-table n f)
       (λ s v k l.
-      List·getD-map (λ x. x / oldPerNew) old (s * n + v) 0 ∙ ap (λ x. x / oldPerNew) (entry-table n (λ s. share (W s) n s oldScale) s v k l ∙ old-share s v k) ∙
-      back (share (W s) n s scale v))
+      List·getD-map (λ x. x / oldPerNew) old (s * n + v) 0 ∙ ap (λ x. x / oldPerNew) (entry-table n f s v k l ∙ old-share s v k) ∙
+      back (openShare (W s) n s mostWays scale v))
 
-  scores-divided : divided (filled oldScale n lay .score) ≡ filled scale n lay .score
+  scores-divided : divided (filled oldScale oldMostWays n lay .score) ≡ filled scale mostWays n lay .score
   unfolding filled
   scores-divided =
-      let old : List ℕ = listTo n (score W n oldScale) in
-      listTo-of n (score W n scale) 0 (divided old) (length-map old (λ x. x / oldPerNew) ∙ length-listTo n (score W n oldScale))
+      let f : ℕ → ℕ = score W n oldMostWays oldScale in
+      let old : List ℕ = listTo n f in
+      listTo-of n (score W n mostWays scale) 0 (divided old) (length-map old (λ x. x / oldPerNew) ∙ length-listTo n f)
       (λ v l.
-      List·getD-map (λ x. x / oldPerNew) old v 0 ∙ ap (λ x. x / oldPerNew) (getD-listTo n (score W n oldScale) 0 v l ∙ old-score v) ∙
-      back (score W n scale v))
+      List·getD-map (λ x. x / oldPerNew) old v 0 ∙ ap (λ x. x / oldPerNew) (getD-listTo n f 0 v l ∙ old-score v) ∙
+      back (score W n mostWays scale v))
 
-  -- the two scales give the same tables exactly where every share is 0
-  same-none : filled oldScale n lay ≡ filled scale n lay → NoShares n lay
-  same-none e s v k l =
-      let same : entry n (filled oldScale n lay .share) s v ≡ entry n (filled scale n lay .share) s v = ap (λ t. entry n (t .share) s v) e in
-      omega (arith, share-entry n lay scale s v k l, share-entry n lay oldScale s v k l, same, old-share s v k)
-
-  none-same : NoShares n lay → filled oldScale n lay ≡ filled scale n lay
+  -- where every share is 0 the old and the new numbers give the same tables
+  none-same : NoShares n lay → filled oldScale oldMostWays n lay ≡ filled scale mostWays n lay
   unfolding filled score
-  none-same none = λ i. record { layout = lay; time = table n (λ s. leastTime (W s) n s); ways = table n (λ s. ways (W s) n s); share = shares i; score = scores i }
+  none-same none = λ i. record { layout = lay; time = table n (λ s. leastTime (W s) n s); ways = old-ways i; share = shares i; score = scores i }
     where
-      no-share : (s v : ℕ) → s < n → v < n → share (W s) n s scale v ≡ 0
-      no-share s v k l = sym (share-entry n lay scale s v k l) ∙ none s v k l
+      no-share : (s v : ℕ) → s < n → v < n → openShare (W s) n s mostWays scale v ≡ 0
+      no-share s v k l = sym (share-entry n lay scale mostWays s v k l) ∙ none s v k l
 
-      shares : table n (λ s. share (W s) n s oldScale) ≡ table n (λ s. share (W s) n s scale)
+      shares : table n (λ s. openShare (W s) n s oldMostWays oldScale) ≡ table n (λ s. openShare (W s) n s mostWays scale)
       shares = table-cong n _ _ (λ s v k l. omega (arith, old-share s v k, no-share s v k l))
 
-      no-score : (v : ℕ) → v < n → score W n scale v ≡ 0
+      no-score : (v : ℕ) → v < n → score W n mostWays scale v ≡ 0
       no-score v l = sumTo-zero n (λ s k. no-share s v k l)
 
-      scores : listTo n (score W n oldScale) ≡ listTo n (score W n scale)
+      scores : listTo n (score W n oldMostWays oldScale) ≡ listTo n (score W n mostWays scale)
       scores = listTo-cong n (λ v l. omega (arith, old-score v, no-score v l))
 
 abbrev pub moving : ℕ → Call
@@ -111,16 +119,24 @@ module _ (n : ℕ) (t : Tables) (alone : t .layout ≡ linksAlone n (t .layout))
   -- it found the tables of a hall of the old numbers, in which no pair has more than 12 ways
   old-right : right oldScale oldMostWays n t ≡ true
   unfolding rule
-  old-right = subst⁻¹ (λ l. right oldScale oldMostWays n (withLayout l t) ≡ true) alone (audited (moving n) t ok)
+  old-right =
+      let l : Layout = linksAlone n (t .layout) in
+      subst⁻¹ (λ l. right oldScale oldMostWays n (withLayout l t) ≡ true) alone
+      (and-eq-true-iff (right oldScale oldMostWays n (withLayout l t)) (uncrowded oldMostWays n l) .0 (audited (moving n) t ok) .0)
+
+  pub move-few : uncrowded mostWays n (t .layout) ≡ true
+  unfolding rule
+  move-few =
+      subst⁻¹ (λ l. uncrowded mostWays n l ≡ true) alone
+      (need-true (uncrowded mostWays n (linksAlone n (t .layout))) TooManyWays Accepted refl (passed (moving n) t ok .2) .0)
 
   pub move-held : Held n (t .layout)
-  unfolding rule
-  move-held = let (size, lengths, tests) = passed (moving n) t ok in subst⁻¹ (Held n) alone (held-old n t size lengths (audited (moving n) t ok) tests)
+  move-held = let (size, lengths, tests) = passed (moving n) t ok in subst⁻¹ (Held n) alone (held-old n t size lengths (audited (moving n) t ok))
 
-  pub move-found : filled oldScale n (t .layout) ≡ t
-  move-found = right-true oldScale oldMostWays n t old-right .2
+  pub move-found : filled oldScale oldMostWays n (t .layout) ≡ t
+  move-found = right-true oldScale oldMostWays n t old-right .1
 
-  pub move-leaves : after (moving n) t ≡ filled scale n (t .layout)
+  pub move-leaves : after (moving n) t ≡ filled scale mostWays n (t .layout)
   unfolding rule
   move-leaves = accepted-filled (moving n) t ok
 
@@ -128,12 +144,12 @@ module _ (n : ℕ) (t : Tables) (alone : t .layout ≡ linksAlone n (t .layout))
   pub move-divides : after (moving n) t ≡ record { layout = t .layout; time = t .time; ways = t .ways; share = divided (t .share); score = divided (t .score) }
   unfolding filled
   move-divides =
-      let few = move-held .few in
+      let few = move-few in
       move-leaves ∙ λ i.
       record {
         layout = t .layout;
         time = move-found i .time;
-        ways = move-found i .ways;
+        ways = (sym (old-ways n (t .layout) few) ∙ ap (λ t. t .ways) move-found) i;
         share = (sym (shares-divided n (t .layout) few) ∙ ap (λ t. divided (t .share)) move-found) i;
         score = (sym (scores-divided n (t .layout) few) ∙ ap (λ t. divided (t .score)) move-found) i;
       }
@@ -148,39 +164,34 @@ module _ (n : ℕ) (t : Tables) (alone : t .layout ≡ linksAlone n (t .layout))
 
 -- on the tables of a hall of the old numbers it tests 11 alone
 module _ (n : ℕ) (t : Tables) (alone : t .layout ≡ linksAlone n (t .layout)) (size : upTo mostStops n ≡ true) (lengths : sized n t ≡ true)
-    (old : right oldScale oldMostWays n t ≡ true) where
-  old-refusal : refusal (moving n) t ≡ waysTest n (t .layout)
+    (old : right oldScale oldMostWays n t ≡ true) (kept : uncrowded oldMostWays n (t .layout) ≡ true) where
+  pub move-tests : refusal (moving n) t ≡ need (uncrowded mostWays n (t .layout)) TooManyWays Accepted
   unfolding refusal rule
-  old-refusal = rw (← alone, size, lengths, none-brief n, old)
+  move-tests = rw (← alone, size, lengths, none-brief n, old, kept)
 
   -- and passes it exactly if all ways are 12 or fewer
   pub move-eleven : refusal (moving n) t ≡ need (allTo n (λ s. allTo n (λ v. leb (entry n (t .ways) s v) mostWays))) TooManyWays Accepted
   move-eleven =
-      let same : filled oldScale n (t .layout) ≡ t = right-true oldScale oldMostWays n t old .2 in
-      old-refusal ∙ ap (λ b. need b TooManyWays Accepted) (sym (few-entries oldScale mostWays n (t .layout)) ∙ ap (λ t. allTo n (λ s. allTo n (λ v. leb (entry n (t .ways) s v) mostWays))) same)
+      let same : filled oldScale oldMostWays n (t .layout) ≡ t = right-true oldScale oldMostWays n t old .1 in
+      move-tests ∙ ap (λ b. need b TooManyWays Accepted) (sym (few-entries oldScale mostWays oldMostWays n (t .layout) (lit≤ tt)) ∙ ap (λ t. allTo n (λ s. allTo n (λ v. leb (entry n (t .ways) s v) mostWays))) same)
 
 -- to the tables of links alone by the old scale it says 3 where a pair has more than 22 ways, and else 11 where one has more than 12
 pub old-told : (n : ℕ) (lay : Layout) → upTo mostStops n ≡ true → length (lay .cost) ≡ n * n → validCosts n (lay .cost) ≡ true →
     let l : Layout = linksAlone n lay in
-    refusal (moving n) (filled oldScale n l) ≡ need (uncrowded oldMostWays n l) BadTables (waysTest n l)
-unfolding refusal rule right filled
+    refusal (moving n) (filled oldScale oldMostWays n l) ≡ need (uncrowded oldMostWays n l) BadTables (need (uncrowded mostWays n l) TooManyWays Accepted)
+unfolding refusal rule filled
 old-told n lay size square valid =
-    rw (size, sized-filled oldScale n n (linksAlone n lay) square (length-replicate n 0) ∙ eq-eqb n n refl, none-brief n, valid, same-refl, same-refl, same-refl, same-refl)
-    (go (uncrowded oldMostWays n (linksAlone n lay)))
-  where
-    go : (b : Bool) → need (b && true) BadTables (waysTest n (linksAlone n lay)) ≡ need b BadTables (waysTest n (linksAlone n lay))
-    go true = refl
-    go false = refl
+    rw (size, sized-filled oldScale oldMostWays n n (linksAlone n lay) square (length-replicate n 0) ∙ eq-eqb n n refl, none-brief n, right-filled oldScale oldMostWays n (linksAlone n lay) valid)
 
 -- so a hall worked out by the old numbers, in which no pair has more than 12 ways, is moved to the tables of the new ones
-pub old-moved : (n : ℕ) (lay : Layout) → Held n (linksAlone n lay) → let l : Layout = linksAlone n lay in
-    (refusal (moving n) (filled oldScale n l) ≡ Accepted) × (after (moving n) (filled oldScale n l) ≡ filled scale n l)
+pub old-moved : (n : ℕ) (lay : Layout) → Held n (linksAlone n lay) → uncrowded mostWays n (linksAlone n lay) ≡ true → let l : Layout = linksAlone n lay in
+    (refusal (moving n) (filled oldScale oldMostWays n l) ≡ Accepted) × (after (moving n) (filled oldScale oldMostWays n l) ≡ filled scale mostWays n l)
 unfolding filled
-old-moved n lay h =
+old-moved n lay h few =
     let l : Layout = linksAlone n lay in
-    let within : need (uncrowded oldMostWays n l) BadTables (waysTest n l) ≡ Accepted = rw (few-old n l (h .few), h .few) in
+    let within : need (uncrowded oldMostWays n l) BadTables (need (uncrowded mostWays n l) TooManyWays Accepted) ≡ Accepted = rw (few-old n l few, few) in
     let ok = old-told n lay (h .size) (h .square) (h .valid) ∙ within in
-    (ok, move-leaves n (filled oldScale n l) refl ok)
+    (ok, move-leaves n (filled oldScale oldMostWays n l) refl ok)
 
 -- accepted or refused, it leaves the book as it is
 pub move-book : (n : ℕ) (b : Book) → bookAfter (moving n) b ≡ b
@@ -191,46 +202,88 @@ move-book n b = go (accepted (bookRefusal (moving n) b))
     go true = refl
     go false = refl
 
--- to the tables of a book it says 3 with any share above 0, and where they are not also those of links alone
+-- to the tables of a book it says 3 with any share above 0, with any crowded pair, and where they are not also those of links alone
 module _ (b : Book) (h : Held (b .stops) (b .layout)) where
+  abbrev N : ℕ
+  N = b .stops
+
   abbrev bare : Layout
-  bare = linksAlone (b .stops) (b .layout)
+  bare = linksAlone N (b .layout)
+
+  -- the tables are also the old ones of the links alone, and no pair of these has more than 22 ways
+  abbrev by-old : Bool
+  by-old = right oldScale oldMostWays N (withLayout bare (tablesOf b))
 
   abbrev alike : Bool
-  alike = right oldScale oldMostWays (b .stops) (withLayout bare (tablesOf b))
+  alike = by-old && uncrowded oldMostWays N bare
 
-  -- where they are, no pair of the links alone has more ways than the limit
-  few-alone : alike ≡ true → uncrowded mostWays (b .stops) bare ≡ true
-  unfolding uncrowded
-  few-alone e = all-cong (b .stops) (λ s k. all-cong (b .stops) (λ t l. ap (λ x. leb x mostWays) (sym (same-ways (b .stops) (b .layout) e s t k l)))) ∙ h .few
+  abbrev alone : ℕ → Costs
+  alone = costsIn N bare
 
-  pub told-book : bookRefusal (moving (b .stops)) b ≡ need alike BadTables Accepted
-  unfolding bookRefusal rule
-  told-book = rw (h .size, eq-eqb (b .stops) (b .stops) refl, none-brief (b .stops)) (go alike refl)
+  parts : alike ≡ true → (by-old ≡ true) × (uncrowded oldMostWays N bare ≡ true)
+  parts = and-eq-true-iff by-old (uncrowded oldMostWays N bare) .0
+
+  -- where they are, every share is 0, by the old numbers as by the new ones
+  same-entry : by-old ≡ true → (s v : ℕ) → s < N → v < N → openShare (alone s) N s oldMostWays oldScale v ≡ entry N (tablesOf b .share) s v
+  unfolding filled
+  same-entry e s v k l =
+      sym (share-entry N bare oldScale oldMostWays s v k l) ∙
+      ap (λ t. entry N (t .share) s v) (right-true oldScale oldMostWays N (withLayout bare (tablesOf b)) e .1)
+
+  no-old : by-old ≡ true → (s v : ℕ) → s < N → v < N → openShare (alone s) N s oldMostWays oldScale v ≡ 0
+  no-old e s v k l =
+      omega (arith, same-entry e s v k l, share-entry N (b .layout) scale mostWays s v k l, same-shares N (b .layout) e mostWays scale s v k, old-more (alone s) N s v)
+
+  -- so no quickest route passes a stop, and each pair of the links alone has one way at most
+  bare-held : Workable N bare
+  bare-held = record { most = workable h .most; square = h .square; long = length-replicate N 0; valid = h .valid; passable = none-brief N }
+
+  one-way : alike ≡ true → (s t : ℕ) → s < N → t < N → ways (alone s) N s t ≤ 1
+  one-way e s t k l =
+      let F = flow bare-held s k in
+      let (old, few) = parts e in
+      none-between (alone s) N s F k t l (λ u i a c. elim (ℕ-discrete t s) [
+        | yes d ↦ at-source F u i a d
+        | no d ↦ none-through (alone s) N s F oldMostWays oldScale (lit≤ tt) u t i l a d (λ q. c (sym q)) (few-ways oldMostWays N bare few s t k l) (no-old old s u k i)
+      ])
     where
-      go : (x : Bool) → alike ≡ x → need x BadTables (waysTest (b .stops) bare) ≡ need x BadTables Accepted
+      at-source : Flows (alone s) N s → (u : ℕ) → u < N → u ≢ s → t ≡ s → through (alone s) N s u t ≡ 0
+      at-source F u i a d = ap (through (alone s) N s u) d ∙ none-back (alone s) N s F k u i a
+
+  few-alone : alike ≡ true → uncrowded mostWays N bare ≡ true
+  few-alone e = ways-few mostWays N bare (λ s t k l. omega (arith, one-way e s t k l))
+
+  pub told-book : bookRefusal (moving N) b ≡ need alike BadTables Accepted
+  unfolding bookRefusal rule
+  told-book = rw (h .size, eq-eqb N N refl, none-brief N) (go alike refl)
+    where
+      go : (x : Bool) → alike ≡ x → need x BadTables (need (uncrowded mostWays N bare) TooManyWays Accepted) ≡ need x BadTables Accepted
       go true e = rw (few-alone e)
       go false e = refl
 
-  pub move-three : (s v : ℕ) → s < b .stops → v < b .stops → 0 < entry (b .stops) (tablesOf b .share) s v → bookRefusal (moving (b .stops)) b ≡ BadTables
-  unfolding filled
+  pub move-three : (s v : ℕ) → s < N → v < N → 0 < entry N (tablesOf b .share) s v → bookRefusal (moving N) b ≡ BadTables
   move-three s v k l some = told-book ∙ go alike refl
     where
-      N : ℕ
-      N = b .stops
-
       go : (x : Bool) → alike ≡ x → need x BadTables Accepted ≡ BadTables
-      go true e =
-          let same : entry N (filled oldScale N bare .share) s v ≡ entry N (tablesOf b .share) s v = ap (λ t. entry N (t .share) s v) (right-true oldScale oldMostWays N (withLayout bare (tablesOf b)) e .2) in
-          let shown = share-entry N (b .layout) scale s v k l in
-          let plain = same-shares N (b .layout) e scale s v k in
-          absurd (omega (arith, some, same, shown, plain, share-entry N bare oldScale s v k l, old-share N bare (few-alone e) s v k))
+      go true e = let (old, few) = parts e in absurd (omega (arith, some, same-entry old s v k l, no-old old s v k l))
       go false e = refl
 
-  -- with passing times of 0 it accepts where there is no share above 0
-  pub move-taken : b .layout ≡ bare → NoShares (b .stops) (b .layout) → bookRefusal (moving (b .stops)) b ≡ Accepted
+  -- also where every share is 0
+  pub crowded-three : (s t : ℕ) → s < N → t < N → crowdedPair mostWays N (b .layout) s t ≡ true → bookRefusal (moving N) b ≡ BadTables
+  crowded-three s t k l full = told-book ∙ go alike refl
+    where
+      go : (x : Bool) → alike ≡ x → need x BadTables Accepted ≡ BadTables
+      go true e =
+          let many = ltb-true mostWays (ways (costsIn N (b .layout) s) N s t) full in
+          absurd (omega (arith, many, same-ways N (b .layout) (parts e .0) s t k l, one-way e s t k l))
+      go false e = refl
+
+  -- with passing times of 0 it accepts where there is no share above 0 and no crowded pair
+  pub move-taken : b .layout ≡ bare → uncrowded mostWays N (b .layout) ≡ true → NoShares N (b .layout) → bookRefusal (moving N) b ≡ Accepted
   unfolding filled
-  move-taken alone none =
-      let sound = right-filled oldScale oldMostWays (b .stops) (b .layout) (h .valid) (few-old (b .stops) (b .layout) (h .few)) in
-      let now : right oldScale oldMostWays (b .stops) (tablesOf b) ≡ true = subst (λ t. right oldScale oldMostWays (b .stops) t ≡ true) (none-same (b .stops) (b .layout) (h .few) none) sound in
-      told-book ∙ ap (λ x. need x BadTables Accepted) (subst (λ l. right oldScale oldMostWays (b .stops) (withLayout l (tablesOf b)) ≡ true) alone now)
+  move-taken same few none =
+      let sound = right-filled oldScale oldMostWays N (b .layout) (h .valid) in
+      let now : right oldScale oldMostWays N (tablesOf b) ≡ true = subst (λ t. right oldScale oldMostWays N t ≡ true) (none-same N (b .layout) few none) sound in
+      let old : by-old ≡ true = subst (λ l. right oldScale oldMostWays N (withLayout l (tablesOf b)) ≡ true) same now in
+      let kept : uncrowded oldMostWays N bare ≡ true = subst (λ l. uncrowded oldMostWays N l ≡ true) same (few-old N (b .layout) few) in
+      told-book ∙ rw (old, kept)

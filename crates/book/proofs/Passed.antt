@@ -9,13 +9,13 @@ use native.Mathlib.Omega.{arith}
 use lib.Dec.{eqb, ltb, leb}
 use borrow.Author.Tests.{eqb-true, eqb-false, leb-true, ltb-true, le-ltb, not-true}
 use Rattle.routes.proofs.Booleans.{both}
-use Rattle.book.specs.Hall.{Layout, Tables, mostStops, largestCost, mostWays, upTo, entry, sized, validPassing, validPair, uncrowded}
-use Rattle.book.specs.Call.{Call, edit, accepted, need, otherCostTests, costTests, waysTest, costSet, withEdit, editRefusal, Verdict, judged, Rule, rule, chain, refusal}
+use Rattle.book.specs.Hall.{Layout, Tables, mostStops, largestCost, upTo, entry, sized, validPassing, validPair}
+use Rattle.book.specs.Call.{Call, edit, accepted, need, otherCostTests, costTests, costSet, withEdit, editRefusal, Verdict, judged, Rule, rule, chain, refusal}
 use Rattle.book.specs.declared.Edit.{Edit}
 use Rattle.book.specs.declared.Kind.{Kind}
 use Rattle.book.specs.declared.Kind.the-variants.{Insert, Cheapen, Raise, Delete}
 use Rattle.book.specs.declared.Refusal.{Refusal}
-use Rattle.book.specs.declared.Refusal.the-variants.{Accepted, BadSize, BadLength, BadTables, BadStop, BadCost, LinkPresent, LinkAbsent, CostWrongSide, BadImage, ShortBuffer, TooManyWays, ListTooLong, BadPassing}
+use Rattle.book.specs.declared.Refusal.the-variants.{Accepted, BadSize, BadLength, BadTables, BadStop, BadCost, LinkPresent, LinkAbsent, CostWrongSide, BadImage, ShortBuffer, TooManyWays, ListTooLong, BadPassing, CrowdedPair}
 
 -- a chain of tests accepts where its first test passes and the rest accepts
 pub need-true : (p : Bool) (r next : Refusal) → accepted r ≡ false → accepted (need p r next) ≡ true → (p ≡ true) × (accepted next ≡ true)
@@ -38,6 +38,7 @@ accepted-only ShortBuffer e = absurd (both e refl)
 accepted-only TooManyWays e = absurd (both e refl)
 accepted-only ListTooLong e = absurd (both e refl)
 accepted-only BadPassing e = absurd (both e refl)
+accepted-only CrowdedPair e = absurd (both e refl)
 
 -- a chain of all tests accepts where each passes
 pub chain-true : (n : ℕ) (lengths passable sound : Bool) (tests : Refusal) → accepted (chain n lengths passable sound tests) ≡ true →
@@ -77,47 +78,43 @@ pub record Permitted (n : ℕ) (e : Edit) (lay : Layout) : Type 0 where
   pub apart : e .u ≢ e .v
   pub fits : costSet (e .kind) (e .cost) ≤ largestCost
   pub differs : entry n (lay .cost) (e .u) (e .v) ≢ costSet (e .kind) (e .cost)
-  pub few : uncrowded mostWays n (withEdit n e lay) ≡ true
 
 -- a number from 1 to m
 pub up-to : (m x : ℕ) → upTo m x ≡ true → (0 < x) × (x ≤ m)
 up-to m x e = let (low, high) = and-eq-true-iff (leb 1 x) (leb x m) .0 e in (leb-true 1 x low, leb-true x m high)
 
--- another cost for a link: it fits, there is a link, it lies on the side that was asked for, and the tests behind pass
-pub other-cost-tests : (wanted : Bool) (c present : ℕ) (next : Refusal) → accepted (otherCostTests wanted c present next) ≡ true →
-    (0 < c) × (c ≤ largestCost) × (0 < present) × (wanted ≡ true) × (accepted next ≡ true)
-other-cost-tests wanted c present next e =
+-- another cost for a link: it fits, there is a link, and it lies on the side that was asked for
+pub other-cost-tests : (wanted : Bool) (c present : ℕ) → accepted (otherCostTests wanted c present) ≡ true → (0 < c) × (c ≤ largestCost) × (0 < present) × (wanted ≡ true)
+other-cost-tests wanted c present e =
     let (bounds, e₁) = need-true (upTo largestCost c) BadCost _ refl e in
     let (there, e₂) = need-true (ltb 0 present) LinkAbsent _ refl e₁ in
-    let (on, e₃) = need-true wanted CostWrongSide next refl e₂ in
+    let (on, e₃) = need-true wanted CostWrongSide Accepted refl e₂ in
     let (some, fits) = up-to largestCost c bounds in
-    (some, fits, ltb-true 0 present there, on, e₃)
+    (some, fits, ltb-true 0 present there, on)
 
-pub cost-tests : (k : Kind) (c present : ℕ) (next : Refusal) → accepted (costTests k c present next) ≡ true →
-    (costSet k c ≤ largestCost) × (present ≢ costSet k c) × (accepted next ≡ true)
-cost-tests Insert c present next e =
+pub cost-tests : (k : Kind) (c present : ℕ) → accepted (costTests k c present) ≡ true → (costSet k c ≤ largestCost) × (present ≢ costSet k c)
+cost-tests Insert c present e =
     let (bounds, e₁) = need-true (upTo largestCost c) BadCost _ refl e in
-    let (absent, e₂) = need-true (eqb present 0) LinkPresent next refl e₁ in
+    let (absent, e₂) = need-true (eqb present 0) LinkPresent Accepted refl e₁ in
     let (some, fits) = up-to largestCost c bounds in
-    (fits, omega (arith, some, eqb-true present 0 absent), e₂)
-cost-tests Cheapen c present next e =
-    let (some, fits, there, less, e₁) = other-cost-tests (ltb c present) c present next e in
-    (fits, omega (arith, ltb-true c present less), e₁)
-cost-tests Raise c present next e =
-    let (some, fits, there, more, e₁) = other-cost-tests (ltb present c) c present next e in
-    (fits, omega (arith, ltb-true present c more), e₁)
-cost-tests Delete c present next e =
-    let (there, e₁) = need-true (ltb 0 present) LinkAbsent next refl e in
-    (omega arith, omega (arith, ltb-true 0 present there), e₁)
+    (fits, omega (arith, some, eqb-true present 0 absent))
+cost-tests Cheapen c present e =
+    let (some, fits, there, less) = other-cost-tests (ltb c present) c present e in
+    (fits, omega (arith, ltb-true c present less))
+cost-tests Raise c present e =
+    let (some, fits, there, more) = other-cost-tests (ltb present c) c present e in
+    (fits, omega (arith, ltb-true present c more))
+cost-tests Delete c present e =
+    let (there, e₁) = need-true (ltb 0 present) LinkAbsent Accepted refl e in
+    (omega arith, omega (arith, ltb-true 0 present there))
 
 pub permitted : (n : ℕ) (e : Edit) (lay : Layout) → accepted (rule n (edit e) lay .tests) ≡ true → Permitted n e lay
 unfolding rule
 permitted n e lay ok =
     let u : ℕ = e .u in
     let v : ℕ = e .v in
-    let left : Layout = withEdit n e lay in
     let (pair, ok₁) = need-true (validPair n u v) BadStop _ refl ok in
-    let (fits, differs, ok₂) = cost-tests (e .kind) (e .cost) (entry n (lay .cost) u v) (waysTest n left) ok₁ in
+    let (fits, differs) = cost-tests (e .kind) (e .cost) (entry n (lay .cost) u v) ok₁ in
     let (from, rest) = and-eq-true-iff (ltb u n) (ltb v n && not (eqb u v)) .0 pair in
     let (to, other) = and-eq-true-iff (ltb v n) (not (eqb u v)) .0 rest in
     record {
@@ -126,20 +123,19 @@ permitted n e lay ok =
       apart = eqb-false u v (not-true (eqb u v) other);
       fits = fits;
       differs = differs;
-      few = need-true (uncrowded mostWays n left) TooManyWays Accepted refl ok₂ .0;
     }
 
 -- an accepted list: its first edit is accepted, and the rest in the hall that it made
 pub judged-true : (n k : ℕ) (e : Edit) (rest : List Edit) (lay : Layout) → accepted (judged n k (e ∷ rest) lay .refusal) ≡ true →
-    (accepted (editRefusal n e lay) ≡ true) × (accepted (judged n (k + 1) rest (withEdit n e lay) .refusal) ≡ true)
+    (accepted (editRefusal n e (lay .cost)) ≡ true) × (accepted (judged n (k + 1) rest (withEdit n e lay) .refusal) ≡ true)
 unfolding judged
-judged-true n k e rest lay ok = go (accepted (editRefusal n e lay)) refl ok
+judged-true n k e rest lay ok = go (accepted (editRefusal n e (lay .cost))) refl ok
   where
     then : Verdict
     then = judged n (k + 1) rest (withEdit n e lay)
 
-    go : (b : Bool) → accepted (editRefusal n e lay) ≡ b → accepted (cond b then (record { refusal = editRefusal n e lay; place = k }) .refusal) ≡ true →
-        (accepted (editRefusal n e lay) ≡ true) × (accepted (then .refusal) ≡ true)
+    go : (b : Bool) → accepted (editRefusal n e (lay .cost)) ≡ b → accepted (cond b then (record { refusal = editRefusal n e (lay .cost); place = k }) .refusal) ≡ true →
+        (accepted (editRefusal n e (lay .cost)) ≡ true) × (accepted (then .refusal) ≡ true)
     go true first ok = (first, ok)
     go false first ok = absurd (both ok first)
 

@@ -3,7 +3,7 @@ use Prim.Native.Nat.{ℕ}
 use mathlib.Core.Path.{_≡_, refl, sym, _∙_, ap}
 use mathlib.Core.Bool.{Bool, true, false, cond}
 use mathlib.Core.List.{List}
-use Rattle.book.specs.Hall.{Layout, laid, linksAlone, Tables, scale, filled}
+use Rattle.book.specs.Hall.{Layout, laid, linksAlone, Tables, mostWays, scale, filled}
 use Rattle.book.specs.Call.{Ask, emptyHall, audit, moveOver, workOut, edit, editList, listRoutes, imageWrite, imageRead, Call, accepted, Answer, refusedAt, rule, withLayout, refusal, after, answer, Done}
 use Rattle.book.specs.Book.{Step, lent, kept}
 use Rattle.book.proofs.Answers.{done-refusal}
@@ -69,7 +69,7 @@ kept-left s t d same = go (accepted (s .answer .refusal)) refl
         withLayout (cond b (laid (s .left .layout .cost) (leaves (t .layout) .passing)) (t .layout)) (s .left) ≡ s .left
     go true e =
         let taken : accepted (refusal (s .call) (lent (s .call) t)) ≡ true = ap accepted (sym (done-refusal (s .call) (lent (s .call) t) d)) ∙ e in
-        let left : s .left ≡ filled scale (s .call .n) (leaves (lent (s .call) t .layout)) = d .left ∙ rw taken in
+        let left : s .left ≡ filled scale mostWays (s .call .n) (leaves (lent (s .call) t .layout)) = d .left ∙ rw taken in
         let passing : leaves (t .layout) .passing ≡ s .left .layout .passing = sym (ap (λ x. x .layout .passing) left ∙ ap (λ x. leaves (x .layout) .passing) same) in
         λ i. withLayout (laid (s .left .layout .cost) (passing i)) (s .left)
     go false e =

@@ -3,7 +3,7 @@
 use Prim.Native.Nat.{ℕ, _+_, _*_, _<_, _≤_}
 use native.Mathlib.Omega.{arith}
 use mathlib.Core.Path.{_≡_, refl, sym, _∙_, ap, ap₂}
-use mathlib.Core.Bool.{cond}
+use mathlib.Core.Bool.{false, cond}
 use mathlib.Core.List.{List, [], _∷_, _++_, append-assoc}
 use lib.Dec.{eqb}
 use lib.ListN.{length, getD, take, drop, length-append}
@@ -12,10 +12,10 @@ use Rattle.routes.specs.Route.{Costs, mark, sumTo, leastTime, ways, through, qu
 use Rattle.routes.proofs.Sums.{sumTo-bound}
 use Rattle.routes.proofs.Shared.{through-le}
 use Rattle.routes.proofs.Listed.{stopsIn, listed-ways, listed-stops, listed-own, listed-none}
-use Rattle.book.specs.Hall.{Layout, mostWays, largestCost, entry, routeBytes, routeList, largestPassing, costsIn}
+use Rattle.book.specs.Hall.{Layout, mostWays, crowdedPair, largestCost, entry, routeBytes, routeList, largestPassing, costsIn}
 use Rattle.book.proofs.Steps.{Held}
 use Rattle.book.proofs.Sizes.{stops}
-use Rattle.book.proofs.Bounded.{ways-bound}
+use Rattle.book.proofs.Uncrowded.{pair-few}
 use Rattle.routes.proofs.Joined.{spent, listed-sum-from}
 use Rattle.book.proofs.Small.{dearest, costs-within, passing-within, within, small, flow, workable}
 
@@ -61,11 +61,11 @@ module _ (n : ℕ) (lay : Layout) (h : Held n lay) (s t : ℕ) (from : s < n) (t
   unfolding routeList
   routes-length = omega (arith, bytes-length (quickestRoutes (C s) n s t), listed-ways (C s) n s t to, listed-sum-from (entry n (lay .cost)) passing n largestCost largestPassing (costs-within (workable h)) (passing-within (workable h)) (small (workable h)) s t from to)
 
-  -- at most twelve routes of at most 64 stops, each behind its length, and their number
-  pub routes-most : length (routeList n lay s t) ≤ 781
+  -- of a pair that is not crowded, at most twelve routes of at most 64 stops, each behind its length, and their number
+  pub routes-most : crowdedPair mostWays n lay s t ≡ false → length (routeList n lay s t) ≤ 781
   unfolding routeList
-  routes-most =
-      let few : ways (C s) n s t ≤ mostWays = ways-bound n lay h s t from to in
+  routes-most free =
+      let few : ways (C s) n s t ≤ mostWays = pair-few mostWays n lay s t free in
       let each = sumTo-bound n mostWays {f = λ v. through (C s) n s v t} (λ v l. omega (arith, few, through-le (C s) n s (flow (workable h) s from) v t l to)) in
       omega (arith, bytes-length (quickestRoutes (C s) n s t), listed-ways (C s) n s t to, listed-stops (C s) n s t to, each, stops n (h .size) .1)
 

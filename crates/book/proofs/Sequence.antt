@@ -2,14 +2,14 @@
 use Prim.Native.Nat.{ℕ, _+_, _<_}
 use mathlib.Core.Path.{_≡_, refl, sym, _∙_, ap, ap₂, subst, subst⁻¹}
 use mathlib.Core.Logic.{_≢_}
-use mathlib.Core.Bool.{Bool, true, cond, _&&_}
+use mathlib.Core.Bool.{Bool, true, false, cond, _&&_}
 use mathlib.Core.List.{List, [], _∷_, _++_, map}
 use lib.Dec.{ltb}
 use lib.ListN.{getD}
 use borrow.Author.Tests.{eq-eqb, lt-ltb}
 use Rattle.routes.specs.Route.{sumTo, has}
 use Rattle.routes.proofs.Sums.{sumTo-cong}
-use Rattle.book.specs.Hall.{Layout, Tables, mostStops, scale, oldMostWays, oldScale, upTo, entry, filled, sized, right, touched, laid, noPassing, linksAlone, validPassing}
+use Rattle.book.specs.Hall.{Layout, Tables, mostStops, mostWays, scale, oldMostWays, oldScale, upTo, entry, filled, sized, right, touched, laid, noPassing, linksAlone, validPassing, crowdedPair, uncrowded}
 use Rattle.book.specs.Call.{Call, emptyHall, moveOver, workOut, edit, editList, run, touchedBy, need, rule, Answer, refusal, after, answer, Done, reversal, withLayout}
 use Rattle.book.specs.Book.{Book, tablesOf, bookRefusal, bookAfter, bookAnswers, Step, callsOf, lent, kept, Sequence, Start, atEmptyHall, atMovedHall, startAsk, firstLayout, firstBook, Started, changed, SetFacts, EditFacts, Demand3}
 use Rattle.book.specs.declared.Edit.{Edit}
@@ -18,13 +18,13 @@ use Rattle.book.proofs.Filled.{sized-filled, sized-passing}
 use Rattle.book.proofs.Answers.{answer-refusal, book-refusal, done-refusal}
 use Rattle.book.proofs.Refused.{kept-left}
 use Rattle.book.proofs.Steps.{Held, held-worked, held-after, accepted-filled, answer-made, kept-made, never-bad, lent-held}
-use Rattle.book.proofs.Moves.{moving, move-leaves, old-moved, move-book, told-book, move-three}
+use Rattle.book.proofs.Moves.{moving, move-leaves, old-moved, move-book, told-book, move-three, crowded-three}
 use Rattle.book.proofs.Edits.{edited-book}
 use Rattle.book.proofs.Lists.{listed-book}
 
 -- a sequence from the tables of a book leaves those of the book at its end
 run-made : (steps : List Step) (b : Book) → Held (b .stops) (b .layout) → Sequence (tablesOf b) steps →
-    (run kept steps (tablesOf b) ≡ filled scale (b .stops) (run bookAfter (callsOf steps) b .layout)) × Held (b .stops) (run bookAfter (callsOf steps) b .layout)
+    (run kept steps (tablesOf b) ≡ filled scale mostWays (b .stops) (run bookAfter (callsOf steps) b .layout)) × Held (b .stops) (run bookAfter (callsOf steps) b .layout)
 unfolding run Sequence bookAfter
 run-made [] b h made = (refl, h)
 run-made (s ∷ rest) b h (d, made) =
@@ -77,7 +77,7 @@ listed-made s b edits h asked d ok =
 layout-first : (from : Start) (N : ℕ) (found start : Tables) →
     let c : Call = record { n = N; ask = startAsk from } in
     let leaves : Layout = rule N (startAsk from) (lent c found .layout) .leaves in
-    start ≡ filled scale N leaves → leaves ≡ firstLayout from N start
+    start ≡ filled scale mostWays N leaves → leaves ≡ firstLayout from N start
 unfolding rule filled
 layout-first (atEmptyHall passing) N found start e = refl
 layout-first atMovedHall N found start e = ap (λ t. laid (t .layout .cost) (noPassing N)) (sym e)
@@ -92,7 +92,7 @@ module _ (from : Start) (N : ℕ) (start : Tables) (begun : Started from N start
   opened : refusal opening given ≡ Accepted
   opened = sym (done-refusal opening given (begun .done)) ∙ begun .taken
 
-  start-filled : start ≡ filled scale N (rule N (startAsk from) (given .layout) .leaves)
+  start-filled : start ≡ filled scale mostWays N (rule N (startAsk from) (given .layout) .leaves)
   start-filled = begun .done .left ∙ accepted-filled opening given opened
 
   -- so the tables are that book's
@@ -100,18 +100,18 @@ module _ (from : Start) (N : ℕ) (start : Tables) (begun : Started from N start
   held-first = subst (Held N) (layout-first from N (begun .found) start start-filled) (lent-held opening (begun .found) opened)
 
   start-book : start ≡ tablesOf (firstBook from N start)
-  start-book = start-filled ∙ ap (filled scale N) (layout-first from N (begun .found) start start-filled)
+  start-book = start-filled ∙ ap (filled scale mostWays N) (layout-first from N (begun .found) start start-filled)
 
   -- after a sequence the tables are those of a book, whose layout is the sequence's
   at-end : (steps : List Step) → Sequence start steps →
       let b : Book = run bookAfter (callsOf steps) (firstBook from N start) in
-      (run kept steps start ≡ filled scale N (b .layout)) × Held N (b .layout)
+      (run kept steps start ≡ filled scale mostWays N (b .layout)) × Held N (b .layout)
   at-end steps made =
       let (left, held) = run-made steps (firstBook from N start) held-first (subst (λ t. Sequence t steps) start-book made) in
       (ap (run kept steps) start-book ∙ left, held)
 
   -- what holds of the tables of every book holds of them
-  pub of-books : (P : Tables → Type 0) (steps : List Step) → Sequence start steps → ((lay : Layout) → Held N lay → P (filled scale N lay)) → P (run kept steps start)
+  pub of-books : (P : Tables → Type 0) (steps : List Step) → Sequence start steps → ((lay : Layout) → Held N lay → P (filled scale mostWays N lay)) → P (run kept steps start)
   of-books P steps made h = let (same, held) = at-end steps made in subst⁻¹ P same (h _ held)
 
   -- a call in a sequence was made on the tables of a book
@@ -151,10 +151,10 @@ unfolding filled rule
 moved-starts N found ok =
     (sequence-from atMovedHall N found ok, λ i. laid (move-leaves N (lent (moving N) found) refl ok i .layout .cost) (noPassing N))
 
--- and the tables of every hall without passing times are such tables: those of its links by the old numbers, moved
-pub hall-starts : (N : ℕ) (lay : Layout) → Held N (linksAlone N lay) → Started atMovedHall N (filled scale N (linksAlone N lay))
+-- and the tables of every hall without passing times and crowded pairs are such tables: those of its links by the old numbers, moved
+pub hall-starts : (N : ℕ) (lay : Layout) → Held N (linksAlone N lay) → uncrowded mostWays N (linksAlone N lay) ≡ true → Started atMovedHall N (filled scale mostWays N (linksAlone N lay))
 unfolding filled rule
-hall-starts N lay h = let (ok, left) = old-moved N lay h in subst (Started atMovedHall N) left (moved-starts N (filled oldScale N (linksAlone N lay)) ok .0)
+hall-starts N lay h few = let (ok, left) = old-moved N lay h few in subst (Started atMovedHall N) left (moved-starts N (filled oldScale oldMostWays N (linksAlone N lay)) ok .0)
 
 -- every N from 1 to 64, with valid passing times, has an empty hall to start from, and every list of calls is such a sequence
 pub sequence-starts : (N : ℕ) (passing : List ℕ) (found : Tables) → let c : Call = record { n = N; ask = emptyHall passing } in
@@ -184,7 +184,7 @@ module _ (from : Start) (N : ℕ) (start : Tables) (begun : Started from N start
       run kept steps start ≡ run kept steps′ start′
   unfolding Demand3
   same-links from′ start′ begun′ steps steps′ made made′ same =
-      demand3 from N start steps begun made .0 ∙ ap (filled scale N) same ∙ sym (demand3 from′ N start′ steps′ begun′ made′ .0)
+      demand3 from N start steps begun made .0 ∙ ap (filled scale mostWays N) same ∙ sym (demand3 from′ N start′ steps′ begun′ made′ .0)
 
   -- sequences of the same calls from the same links and passing times answer the same, whatever their first tables held before
   pub same-answers : (from′ : Start) (start′ : Tables) → Started from′ N start′ → (steps steps′ : List Step) → Sequence start steps → Sequence start′ steps′ →
@@ -194,14 +194,16 @@ module _ (from : Start) (N : ℕ) (start : Tables) (begun : Started from N start
       demand3 from N start steps begun made .1 ∙ ap₂ (λ calls lay. bookAnswers calls (record { stops = N; layout = lay })) same first ∙
       sym (demand3 from′ N start′ steps′ begun′ made′ .1)
 
-  -- an accepted edit of a sequence in the words of its routes: it changes exactly the rows of the sources that it touches, answers how
-  -- many they are, and moves each score by what their shares move
+  -- an accepted edit of a sequence in the words of its routes: it changes no row but those of the sources that it touches, and exactly
+  -- those if no pair is crowded before or after; it answers how many they are, and moves each score by what their shares move
   pub edit-exact : (before rest : List Step) (s : Step) (e : Edit) → Sequence start (before ++ s ∷ rest) → s .call .ask ≡ edit e → s .answer .refusal ≡ Accepted →
       let n : ℕ = s .call .n in
       let t : Tables = run kept before start in
       let t′ : Tables = s .left in
       let touches : ℕ → Bool = touched n (t .layout) (t′ .layout) (e .u) (e .v) in
-      ((x : ℕ) → x < n → changed n t t′ x ≡ touches x) × (s .answer .rows ≡ sumTo 64 (λ x. cond (ltb x n && touches x) 1 0)) ×
+      ((x : ℕ) → x < n → touches x ≡ false → changed n t t′ x ≡ false) ×
+      (uncrowded mostWays n (t .layout) ≡ true → uncrowded mostWays n (t′ .layout) ≡ true → (x : ℕ) → x < n → changed n t t′ x ≡ touches x) ×
+      (s .answer .rows ≡ sumTo 64 (λ x. cond (ltb x n && touches x) 1 0)) ×
       ((x : ℕ) → x < n →
       getD (t′ .score) x 0 + sumTo n (λ s. cond (touches s) (entry n (t .share) s x) 0) ≡ getD (t .score) x 0 + sumTo n (λ s. cond (touches s) (entry n (t′ .share) s x) 0))
   unfolding Demand3
@@ -213,7 +215,7 @@ module _ (from : Start) (N : ℕ) (start : Tables) (begun : Started from N start
       let member : (x : ℕ) → x < n → has (s .answer .touched) x ≡ touches x = λ x l. f .set .names x ∙ rw (lt-ltb x n l) in
       let over : (u : Tables) (x : ℕ) → sumTo n (λ s′. cond (has (s .answer .touched) s′) (entry n (u .share) s′ x) 0) ≡ sumTo n (λ s′. cond (touches s′) (entry n (u .share) s′ x) 0) =
       λ u x. sumTo-cong n (λ i l. rw (member i l)) in
-      (λ x l. f .changes x l ∙ member x l, f .set .counts ∙ sumTo-cong 64 (λ i l. rw (f .set .names i)), λ x l. rw (← over t x, ← over (s .left) x) (f .set .moves x l))
+      (λ x l away. f .set .stays x l (member x l ∙ away), λ few few′ x l. f .changes few few′ x l ∙ member x l, f .set .counts ∙ sumTo-cong 64 (λ i l. rw (f .set .names i)), λ x l. rw (← over t x, ← over (s .left) x) (f .set .moves x l))
 
   -- an accepted edit of a sequence that the next call reverses: that one is accepted too, leaves the five tables of before the edit,
   -- and touches the same sources
@@ -243,9 +245,9 @@ module _ (from : Start) (N : ℕ) (start : Tables) (begun : Started from N start
       (λ b N-stops h d bad. never-bad (s .call) b another (sym (ap (λ a. a .refusal) (answer-made s b h d) ∙ book-refusal (s .call) b) ∙ bad))
 
   -- a moving call of a sequence leaves the tables as they are; with N it says 3 exactly where they are not also those of the old scale
-  -- and limit for passing times of 0, as with any share above 0
+  -- and limit for passing times of 0, as with any share above 0 and with any crowded pair, and else it is accepted: it never says 11
   abbrev alike : ℕ → Tables → Bool
-  alike n t = right oldScale oldMostWays n (withLayout (linksAlone n (t .layout)) t)
+  alike n t = right oldScale oldMostWays n (withLayout (linksAlone n (t .layout)) t) && uncrowded oldMostWays n (linksAlone n (t .layout))
 
   module _ (made : List Step) (s : Step) (rest : List Step) (all : Sequence start (made ++ s ∷ rest)) (asked : s .call .ask ≡ moveOver) where
     pub moved-kept : kept s (run kept made start) ≡ run kept made start
@@ -271,6 +273,12 @@ module _ (from : Start) (N : ℕ) (start : Tables) (begun : Started from N start
           at-step from N start begun (λ t. 0 < entry N (t .share) x v → s .answer .refusal ≡ BadTables) made rest s all (λ b N-stops h d some.
           said-book b N-stops h d ∙ move-three b h x v (rw N-stops k) (rw N-stops l) (subst (λ m. 0 < entry m (tablesOf b .share) x v) (sym N-stops) some))
 
+      pub moved-crowded : (x y : ℕ) → x < N → y < N → crowdedPair mostWays N (run kept made start .layout) x y ≡ true → s .answer .refusal ≡ BadTables
+      unfolding filled
+      moved-crowded x y k l =
+          at-step from N start begun (λ t. crowdedPair mostWays N (t .layout) x y ≡ true → s .answer .refusal ≡ BadTables) made rest s all (λ b N-stops h d full.
+          said-book b N-stops h d ∙ crowded-three b h x y (rw N-stops k) (rw N-stops l) (subst (λ m. crowdedPair mostWays m (b .layout) x y ≡ true) (sym N-stops) full))
+
   -- a work out on the layout that a sequence leaves is accepted and changes nothing
   pub worked-out : (steps : List Step) → Sequence start steps →
       let t : Tables = run kept steps start in
@@ -281,5 +289,5 @@ module _ (from : Start) (N : ℕ) (start : Tables) (begun : Started from N start
       let worked : Tables → Call = λ t. record { n = N; ask = workOut (t .layout) } in
       of-books from N start begun (λ t. (refusal (worked t) t ≡ Accepted) × (after (worked t) t ≡ t)) steps made
       (λ lay h.
-      let taken = held-worked N lay (filled scale N lay) h (sized-filled scale N N lay (h .square) (h .long) ∙ eq-eqb N N refl) in
+      let taken = held-worked N lay (filled scale mostWays N lay) h (sized-filled scale mostWays N N lay (h .square) (h .long) ∙ eq-eqb N N refl) in
       (taken, rw taken))

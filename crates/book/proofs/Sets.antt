@@ -8,11 +8,11 @@ use native.Mathlib.Nat.{eq-or-lt-of-le}
 use native.Mathlib.Omega.{arith}
 use lib.Dec.{eqb}
 use borrow.Author.Tests.{eqb-true, eq-eqb, le-ltb, lt-ltb, not-false}
-use Rattle.routes.specs.Route.{sumTo, setOf, has, share, score}
+use Rattle.routes.specs.Route.{sumTo, setOf, has, openShare, score}
 use Rattle.routes.proofs.Sums.{sumTo-cong, sumTo-split, all-true, all-of}
 use Rattle.routes.proofs.Bits.{has-setOf}
 use Rattle.routes.proofs.Rows.{getD-listTo}
-use Rattle.book.specs.Hall.{Layout, Tables, mostStops, scale, table, entry, costsIn, filled}
+use Rattle.book.specs.Hall.{Layout, Tables, mostStops, mostWays, scale, table, entry, costsIn, filled}
 use Rattle.book.specs.Call.{names}
 use Rattle.book.specs.Book.{SetFacts, changed}
 use Rattle.book.proofs.Tables.{entry-table}
@@ -85,23 +85,23 @@ module _ (n : ℕ) (sources : ℕ → Bool) where
 
   -- from the layout of one hall to that of another
   module _ (lay lay′ : Layout) (before : ℕ) (few : n ≤ mostStops)
-      (rows-stay : (s : ℕ) → s < n → sources s ≡ false → changed n (filled scale n lay) (filled scale n lay′) s ≡ false) where
+      (rows-stay : (s : ℕ) → s < n → sources s ≡ false → changed n (filled scale mostWays n lay) (filled scale mostWays n lay′) s ≡ false) where
     abbrev of : Layout → ℕ → ℕ → ℕ
-    of lay s = share (costsIn n lay s) n s scale
+    of lay s = openShare (costsIn n lay s) n s mostWays scale
 
     share-stays : (s x : ℕ) → s < n → x < n → sources s ≡ false → of lay s x ≡ of lay′ s x
     unfolding filled
     share-stays s x hs hx away =
         sym (entry-table n (of lay) s x hs hx) ∙
-        row-same n (filled scale n lay) (filled scale n lay′) s (rows-stay s hs away) .share x hx ∙ entry-table n (of lay′) s x hs hx
+        row-same n (filled scale mostWays n lay) (filled scale mostWays n lay′) s (rows-stay s hs away) .share x hx ∙ entry-table n (of lay′) s x hs hx
 
-    pub set-facts : SetFacts n sources (filled scale n lay) (filled scale n lay′) (names n sources before)
+    pub set-facts : SetFacts n sources (filled scale mostWays n lay) (filled scale mostWays n lay′) (names n sources before)
     unfolding filled score
     set-facts = record {
       names = λ s. has-setOf n sources s;
       counts = sumTo-cong n (λ s hs. rw (member s hs)) ∙ sym (sumTo-beyond 64 n few (λ s hs. rw (outside s hs)));
       stays = λ s hs away. rows-stay s hs (sym (member s hs) ∙ away);
       moves = λ x hx.
-          rw (getD-listTo n (score (costsIn n lay) n scale) 0 x hx, getD-listTo n (score (costsIn n lay′) n scale) 0 x hx, over-members (of lay) x hx, over-members (of lay′) x hx)
+          rw (getD-listTo n (score (costsIn n lay) n mostWays scale) 0 x hx, getD-listTo n (score (costsIn n lay′) n mostWays scale) 0 x hx, over-members (of lay) x hx, over-members (of lay′) x hx)
           (sumTo-move n sources (λ s. of lay s x) (λ s. of lay′ s x) (λ s hs away. share-stays s x hs hx away));
     }

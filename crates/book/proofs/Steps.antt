@@ -2,24 +2,24 @@
 use Prim.Native.Nat.{ℕ, _+_, _*_, _<_}
 use mathlib.Core.Path.{_≡_, refl, _∙_, ap, subst}
 use mathlib.Core.Logic.{_≢_}
-use mathlib.Core.Bool.{Bool, true, false, cond, _&&_, and-eq-true-iff}
+use mathlib.Core.Bool.{Bool, true, false, cond, not, _&&_, and-eq-true-iff}
 use mathlib.Core.List.{List, [], _∷_}
-use lib.Dec.{eqb, ltb, leb, lit<}
+use lib.Dec.{eqb, ltb, leb}
 use lib.ListN.{length, length-set, length-replicate, getD-replicate}
 use native.Mathlib.Omega.{arith}
 use borrow.Author.Tests.{eqb-true, eq-eqb, ne-eqb, leb-true}
 use Rattle.routes.proofs.Booleans.{both}
 use Rattle.routes.proofs.Sums.{all-of}
-use Rattle.book.specs.Hall.{Layout, laid, Tables, mostStops, mostWays, mostEdits, scale, oldMostWays, oldScale, upTo, entry, filled, sized, validCosts, validPassing, noPassing, linksAlone, noLinks, uncrowded, right, routeList, imageOf, isImage, costsOf}
-use Rattle.book.specs.Call.{Ask, emptyHall, audit, moveOver, workOut, edit, editList, listRoutes, imageWrite, imageRead, Call, number, accepted, need, waysTest, costSet, withEdit, editRefusal, run, withEdits, judged, Rule, writing, rule, withLayout, Answer, refusal, after, answer, Done}
+use Rattle.book.specs.Hall.{Layout, laid, Tables, mostStops, mostWays, mostEdits, scale, oldMostWays, oldScale, upTo, entry, filled, sized, validCosts, validPassing, noPassing, linksAlone, noLinks, crowdedPair, uncrowded, right, routeList, imageOf, isImage, costsOf}
+use Rattle.book.specs.Call.{Ask, emptyHall, audit, moveOver, workOut, edit, editList, listRoutes, imageWrite, imageRead, Call, number, accepted, need, costSet, withEdit, editRefusal, run, withEdits, judged, Rule, writing, rule, withLayout, Answer, refusal, after, answer, Done}
 use Rattle.book.specs.Book.{Book, tablesOf, bookRefusal, bookAfter, bookAnswer, Step, lent, kept, Sequence}
 use Rattle.book.specs.Contract.{Audited}
 use Rattle.book.specs.declared.Edit.{Edit}
 use Rattle.book.specs.declared.Refusal.{Refusal}
-use Rattle.book.specs.declared.Refusal.the-variants.{Accepted, BadSize, BadLength, BadTables, BadStop, BadCost, BadImage, ShortBuffer, TooManyWays, ListTooLong, BadPassing}
+use Rattle.book.specs.declared.Refusal.the-variants.{Accepted, BadSize, BadLength, BadTables, BadStop, BadCost, BadImage, ShortBuffer, TooManyWays, ListTooLong, BadPassing, CrowdedPair}
 use Rattle.book.proofs.Tables.{entry-set, valid-set}
 use Rattle.book.proofs.Images.{length-read, read-valid}
-use Rattle.book.proofs.NoLinks.{valid-none, uncrowded-none}
+use Rattle.book.proofs.NoLinks.{valid-none}
 use Rattle.book.proofs.Filled.{sized-beside, sized-costs, sized-filled, sized-cost, sized-passing, right-filled, right-true}
 use Rattle.book.proofs.Alone.{moved-same}
 use Rattle.book.proofs.Answers.{book-refusal}
@@ -33,7 +33,6 @@ pub record Held (n : ℕ) (lay : Layout) : Type 0 where
   pub long : length (lay .passing) ≡ n
   pub valid : validCosts n (lay .cost) ≡ true
   pub passable : validPassing n (lay .passing) ≡ true
-  pub few : uncrowded mostWays n lay ≡ true
 
 -- it holds where there are no links
 pub held-none : (n : ℕ) (passing : List ℕ) → upTo mostStops n ≡ true → length passing ≡ n → validPassing n passing ≡ true → Held n (noLinks n passing)
@@ -43,7 +42,6 @@ held-none n passing size long passable = record {
   long = long;
   valid = valid-none n;
   passable = passable;
-  few = uncrowded-none mostWays n passing (lit< tt);
 }
 
 -- of a layout with which work out passes its tests, and work out accepts those of which it holds
@@ -53,12 +51,11 @@ unfolding rule
 worked-held n brought lay size fits passable e =
     let (square, long) = and-eq-true-iff (eqb (length (brought .cost)) (n * n)) _ .0 fits in
     let (valid, e₁) = need-true (validCosts n (brought .cost)) BadCost _ refl e in
-    let (few, e₂) = need-true (uncrowded mostWays n brought) TooManyWays Accepted refl e₁ in
-    record { size = size; square = eqb-true _ _ square; long = eqb-true _ _ long; valid = valid; passable = passable; few = few }
+    record { size = size; square = eqb-true _ _ square; long = eqb-true _ _ long; valid = valid; passable = passable }
 
 pub held-worked : (n : ℕ) (brought : Layout) (t : Tables) → Held n brought → sized n t ≡ true → refusal (record { n = n; ask = workOut brought }) t ≡ Accepted
 unfolding refusal rule
-held-worked n brought t h s = rw (h .size, s, h .square, h .long, eq-eqb (n * n) (n * n) refl, eq-eqb n n refl, h .passable, h .valid, h .few)
+held-worked n brought t h s = rw (h .size, s, h .square, h .long, eq-eqb (n * n) (n * n) refl, eq-eqb n n refl, h .passable, h .valid)
 
 module _ (n : ℕ) (e : Edit) (lay : Layout) (h : Held n lay) (p : Permitted n e lay) where
   -- an edit leaves the new cost at its link, and the others as they were
@@ -72,7 +69,6 @@ module _ (n : ℕ) (e : Edit) (lay : Layout) (h : Held n lay) (p : Permitted n e
     long = h .long;
     passable = h .passable;
     valid = valid-set n (lay .cost) (e .u) (e .v) (costSet (e .kind) (e .cost)) (h .square) (p .from) (p .to) (p .apart) (p .fits) (h .valid);
-    few = p .few;
   }
 
 -- and so does a list of them
@@ -87,15 +83,15 @@ held-list n k (e ∷ rest) lay h ok =
 pub held-right : (n : ℕ) (t : Tables) → upTo mostStops n ≡ true → sized n t ≡ true → validPassing n (t .layout .passing) ≡ true → right scale mostWays n t ≡ true →
     Held n (t .layout)
 held-right n t size lengths passable sound =
-    let (valid, few, same) = right-true scale mostWays n t sound in
-    record { size = size; square = sized-cost n t lengths; long = sized-passing n t lengths; valid = valid; passable = passable; few = few }
+    let (valid, same) = right-true scale mostWays n t sound in
+    record { size = size; square = sized-cost n t lengths; long = sized-passing n t lengths; valid = valid; passable = passable }
 
 -- the tables of such a layout are what the audit finds right
-pub held-audited : (n : ℕ) (lay : Layout) → Held n lay → Audited n (filled scale n lay)
+pub held-audited : (n : ℕ) (lay : Layout) → Held n lay → Audited n (filled scale mostWays n lay)
 unfolding filled
 held-audited n lay h = record {
-  inside = record { size = h .size; lengths = sized-filled scale n n lay (h .square) (h .long) ∙ eq-eqb n n refl; passable = h .passable };
-  sound = right-filled scale mostWays n lay (h .valid) (h .few);
+  inside = record { size = h .size; lengths = sized-filled scale mostWays n n lay (h .square) (h .long) ∙ eq-eqb n n refl; passable = h .passable };
+  sound = right-filled scale mostWays n lay (h .valid);
 }
 
 -- every passing time 0: none is too long
@@ -103,19 +99,14 @@ pub none-brief : (n : ℕ) → validPassing n (noPassing n) ≡ true
 unfolding validPassing
 none-brief n = all-of n _ (λ v l. rw (getD-replicate {A = ℕ} n v 0 0 l))
 
--- of the links of tables that are right by the old numbers, if no pair has more ways than the limit
-pub held-old : (n : ℕ) (t : Tables) → upTo mostStops n ≡ true → sized n t ≡ true → right oldScale oldMostWays n (withLayout (linksAlone n (t .layout)) t) ≡ true →
-    accepted (waysTest n (linksAlone n (t .layout))) ≡ true → Held n (linksAlone n (t .layout))
-held-old n t size lengths old e =
-    let (valid, few, same) = right-true oldScale oldMostWays n (withLayout (linksAlone n (t .layout)) t) old in
-    record {
-      size = size;
-      square = sized-cost n t lengths;
-      long = length-replicate n 0;
-      valid = valid;
-      passable = none-brief n;
-      few = need-true (uncrowded mostWays n (linksAlone n (t .layout))) TooManyWays Accepted refl e .0;
-    }
+-- of the links of tables that are right by the old numbers
+pub held-old : (n : ℕ) (t : Tables) → upTo mostStops n ≡ true → sized n t ≡ true → rule n moveOver (t .layout) .sound t ≡ true → Held n (linksAlone n (t .layout))
+unfolding rule
+held-old n t size lengths old =
+    let alone : Layout = linksAlone n (t .layout) in
+    let (found, few) = and-eq-true-iff (right oldScale oldMostWays n (withLayout alone t)) (uncrowded oldMostWays n alone) .0 old in
+    let (valid, same) = right-true oldScale oldMostWays n (withLayout alone t) found in
+    record { size = size; square = sized-cost n t lengths; long = length-replicate n 0; valid = valid; passable = none-brief n }
 
 -- what is asked of the moving call alone
 unfoldable pub OfMove : Ask → Type 0 → Type 0
@@ -158,8 +149,7 @@ rule-held n (listRoutes s x buffer) t size lengths fits passable sound e own = h
 rule-held n (imageWrite buffer) t size lengths fits passable sound e own = held-right n t size lengths passable sound
 rule-held n (imageRead image passing) t size lengths fits passable sound e own =
     let (is, e₁) = need-true (isImage n image) BadImage _ refl e in
-    let (few, e₂) = need-true (uncrowded mostWays n (laid (costsOf n image) passing)) TooManyWays Accepted refl e₁ in
-    record { size = size; square = length-read n image; long = eqb-true _ _ fits; valid = read-valid n image is; passable = passable; few = few }
+    record { size = size; square = length-read n image; long = eqb-true _ _ fits; valid = read-valid n image is; passable = passable }
 
 -- so it holds of the layout that any accepted call leaves, on any tables, and its tables are left
 module _ (c : Call) (t : Tables) (e : refusal c t ≡ Accepted) where
@@ -168,7 +158,7 @@ module _ (c : Call) (t : Tables) (e : refusal c t ≡ Accepted) where
       let (size, lengths, tests) = passed c t e in
       rule-held (c .n) (c .ask) t size lengths (fitted c t e) (brief c t e) (audited c t e) tests own
 
-  pub accepted-filled : after c t ≡ filled scale (c .n) (rule (c .n) (c .ask) (t .layout) .leaves)
+  pub accepted-filled : after c t ≡ filled scale mostWays (c .n) (rule (c .n) (c .ask) (t .layout) .leaves)
   unfolding after
   accepted-filled = rw e
 
@@ -181,7 +171,7 @@ lent-held c t e = accepted-held c (lent c t) e (own (c .ask) (passed c (lent c t
         (upTo mostStops (c .n) ≡ true) × (sized (c .n) t′ ≡ true) × (accepted (r .tests) ≡ true) → r .sound t′ ≡ true → OfMove ask (Held (c .n) (t′ .layout))
     own (emptyHall passing) p sound = tt
     own audit p sound = tt
-    own moveOver (size, lengths, tests) sound = held-old (c .n) (withLayout (linksAlone (c .n) (t .layout)) t) size lengths sound tests
+    own moveOver (size, lengths, tests) sound = held-old (c .n) (withLayout (linksAlone (c .n) (t .layout)) t) size lengths sound
     own (workOut brought) p sound = tt
     own (edit e) p sound = tt
     own (editList edits) p sound = tt
@@ -254,11 +244,11 @@ module _ (c : Call) (b : Book) where
   module _ (h : Held (b .stops) (b .layout)) where
     -- the book's tables have the lengths for N alone, and pass what a call audits exactly where the book says so
     lengths-book : sized (c .n) (tablesOf b) ≡ eqb (c .n) (b .stops)
-    lengths-book = sized-filled scale (c .n) (b .stops) (b .layout) (h .square) (h .long)
+    lengths-book = sized-filled scale mostWays (c .n) (b .stops) (b .layout) (h .square) (h .long)
 
     sound-book : c .n ≡ b .stops → ruled .sound (tablesOf b) ≡ ruled .soundInBook (tablesOf b)
     sound-book same =
-        sound-in-book (c .n) (c .ask) (b .layout) (tablesOf b) (rw same (right-filled scale mostWays (b .stops) (b .layout) (h .valid) (h .few)))
+        sound-in-book (c .n) (c .ask) (b .layout) (tablesOf b) (rw same (right-filled scale mostWays (b .stops) (b .layout) (h .valid)))
 
     -- so they refuse what the book refuses
     pub refusal-book : refusal c (tablesOf b) ≡ bookRefusal c b
@@ -302,10 +292,10 @@ module _ (n : ℕ) (b : Book) (h : Held (b .stops) (b .layout)) where
   beside ask = withLayout (rule n ask (b .layout) .lent) (tablesOf b)
 
   with-passing : (passing : List ℕ) → sized n (withLayout (laid (b .layout .cost) passing) (tablesOf b)) ≡ (eqb (length passing) n && eqb n (b .stops))
-  with-passing passing = sized-costs scale n (b .stops) (b .layout) passing (h .square)
+  with-passing passing = sized-costs scale mostWays n (b .stops) (b .layout) passing (h .square)
 
   present : sized n (tablesOf b) ≡ eqb n (b .stops)
-  present = sized-filled scale n (b .stops) (b .layout) (h .square) (h .long)
+  present = sized-filled scale mostWays n (b .stops) (b .layout) (h .square) (h .long)
 
   lent-sized : (ask : Ask) → let fits : Bool = rule n ask (b .layout) .fits in (fits && sized n (beside ask)) ≡ (fits && eqb n (b .stops))
   unfolding rule filled
@@ -313,7 +303,7 @@ module _ (n : ℕ) (b : Book) (h : Held (b .stops) (b .layout)) where
   lent-sized audit = present
   lent-sized moveOver = with-passing (noPassing n) ∙ rw (length-replicate {A = ℕ} n 0, eq-eqb n n refl)
   lent-sized (workOut brought) =
-      ap (λ x. (eqb (length (brought .cost)) (n * n) && eqb (length (brought .passing)) n) && x) (sized-beside scale n (b .stops) (b .layout) brought) ∙
+      ap (λ x. (eqb (length (brought .cost)) (n * n) && eqb (length (brought .passing)) n) && x) (sized-beside scale mostWays n (b .stops) (b .layout) brought) ∙
       and-both-twice (eqb (length (brought .cost)) (n * n)) (eqb (length (brought .passing)) n) (eqb n (b .stops))
   lent-sized (edit e) = present
   lent-sized (editList edits) = present
@@ -339,12 +329,12 @@ module _ (n : ℕ) (b : Book) (h : Held (b .stops) (b .layout)) where
   refusal-lent ask = rw (rule-lent n ask (b .layout), lent-sized ask, lent-sound ask, ← present) (refusal-book (record { n = n; ask = ask }) b h)
 
 -- what is left of the tables of a layout by an accepted call on what it is lent, with the passing times that the host then has
-kept-leaves : (n : ℕ) (ask : Ask) (lay : Layout) → Held n lay → rule n ask lay .soundInBook (filled scale n lay) ≡ true →
-    withLayout (laid (lentLeaves n ask lay .cost) (rule n ask lay .leaves .passing)) (filled scale n (lentLeaves n ask lay)) ≡ filled scale n (rule n ask lay .leaves)
+kept-leaves : (n : ℕ) (ask : Ask) (lay : Layout) → Held n lay → rule n ask lay .soundInBook (filled scale mostWays n lay) ≡ true →
+    withLayout (laid (lentLeaves n ask lay .cost) (rule n ask lay .leaves .passing)) (filled scale mostWays n (lentLeaves n ask lay)) ≡ filled scale mostWays n (rule n ask lay .leaves)
 unfolding rule filled
 kept-leaves n (emptyHall passing) lay h sound = refl
 kept-leaves n audit lay h sound = refl
-kept-leaves n moveOver lay h sound = moved-same n lay sound
+kept-leaves n moveOver lay h sound = moved-same n lay (and-eq-true-iff (right oldScale oldMostWays n (withLayout (linksAlone n lay) (filled scale mostWays n lay))) (uncrowded oldMostWays n (linksAlone n lay)) .0 sound .0)
 kept-leaves n (workOut brought) lay h sound = refl
 kept-leaves n (edit e) lay h sound = refl
 kept-leaves n (editList edits) lay h sound = refl
@@ -371,50 +361,72 @@ module _ (s : Step) (b : Book) (h : Held (b .stops) (b .layout)) (d : Done (s .c
       leaves = rule (s .call .n) (s .call .ask) (b .layout) .leaves
 
       go : (x : Bool) → accepted (bookRefusal (s .call) b) ≡ x →
-          let t′ : Tables = cond x (filled scale (s .call .n) (lentLeaves (s .call .n) (s .call .ask) (b .layout))) (lent (s .call) (tablesOf b)) in
-          withLayout (cond x (laid (t′ .layout .cost) (leaves .passing)) (b .layout)) t′ ≡ filled scale (b .stops) (cond x leaves (b .layout))
+          let t′ : Tables = cond x (filled scale mostWays (s .call .n) (lentLeaves (s .call .n) (s .call .ask) (b .layout))) (lent (s .call) (tablesOf b)) in
+          withLayout (cond x (laid (t′ .layout .cost) (leaves .passing)) (b .layout)) t′ ≡ filled scale mostWays (b .stops) (cond x leaves (b .layout))
       go true e =
           let (same, fits, passable, sound, tests) = accepted-book (s .call) b e in
           kept-leaves (s .call .n) (s .call .ask) (b .layout) (rw same h) (rw (← same) at sound) ∙ rw same
       go false e = refl
 
--- an answer other than 3
-record Other (r : Refusal) : Type 0 where
-  not-three : eqb (number r) 3 ≡ false
+-- an answer other than k
+record Other (k : ℕ) (r : Refusal) : Type 0 where
+  apart : eqb (number r) k ≡ false
 
-need-other : (p : Bool) (r : Refusal) {next : Refusal} → eqb (number r) 3 ≡ false → Other next → Other (need p r next)
+need-other : {k : ℕ} (p : Bool) (r : Refusal) {next : Refusal} → eqb (number r) k ≡ false → Other k next → Other k (need p r next)
 need-other true r e f = f
-need-other false r e f = record { not-three = e }
+need-other false r e f = record { apart = e }
 
-ways-other : (n : ℕ) (lay : Layout) → Other (waysTest n lay)
-ways-other n lay = need-other (uncrowded mostWays n lay) TooManyWays refl (record { not-three = refl })
+-- an answer that is neither 3 nor 11, as every test of a call's own gives but the moving one's
+record Own (r : Refusal) : Type 0 where
+  three : Other 3 r
+  eleven : Other 11 r
 
--- what only an edit's refusals are is none
-told-other : (r : Refusal) → Told r → Other r
-told-other r t = go (accepted r) refl
+need-own : (p : Bool) (r : Refusal) {next : Refusal} → eqb (number r) 3 ≡ false → eqb (number r) 11 ≡ false → Own next → Own (need p r next)
+need-own p r e f own = record { three = need-other p r e (own .three); eleven = need-other p r f (own .eleven) }
+
+accepted-own : Own Accepted
+accepted-own = record { three = record { apart = refl }; eleven = record { apart = refl } }
+
+-- what only an edit's refusals are
+told-own : (r : Refusal) → Told r → Own r
+told-own r t = go (accepted r) refl
   where
-    go : (b : Bool) → accepted r ≡ b → Other r
-    go true ok = record { not-three = rw (eqb-true (number r) 0 ok) }
+    go : (b : Bool) → accepted r ≡ b → Own r
+    go true ok = let none = eqb-true (number r) 0 ok in record { three = record { apart = rw none }; eleven = record { apart = rw none } }
     go false shut =
-        let low = leb-true 4 (number r) (and-eq-true-iff (leb 4 (number r)) (leb (number r) 11) .0 (t .tells shut) .0) in
-        record { not-three = ne-eqb (number r) 3 (λ e. omega arith) }
+        let (low, high) = and-eq-true-iff (leb 4 (number r)) (leb (number r) 8) .0 (t .tells shut) in
+        record {
+          three = record { apart = ne-eqb (number r) 3 (λ e. omega (arith, e, leb-true 4 (number r) low)) };
+          eleven = record { apart = ne-eqb (number r) 11 (λ e. omega (arith, e, leb-true (number r) 8 high)) };
+        }
 
--- nor are those of a call that writes
-writing-other : (n : ℕ) (known : Bool) (bytes buffer : List ℕ) (lay : Layout) → Other (writing n known bytes buffer lay .tests)
-writing-other n known bytes buffer lay =
-    need-other known BadStop refl (need-other (leb (length bytes) (length buffer)) ShortBuffer refl (record { not-three = refl }))
+-- and those of a call that writes
+writing-own : (n : ℕ) (known full : Bool) (bytes buffer : List ℕ) (lay : Layout) → Own (writing n known full bytes buffer lay .tests)
+writing-own n known full bytes buffer lay =
+    need-own known BadStop refl refl (need-own (not full) CrowdedPair refl refl (need-own (leb (length bytes) (length buffer)) ShortBuffer refl refl accepted-own))
 
-rule-other : (n : ℕ) (ask : Ask) (lay : Layout) → Other (rule n ask lay .tests)
+rule-own : (n : ℕ) (ask : Ask) (lay : Layout) → ask ≢ moveOver → Own (rule n ask lay .tests)
 unfolding rule
-rule-other n (emptyHall passing) lay = record { not-three = refl }
-rule-other n audit lay = record { not-three = refl }
-rule-other n moveOver lay = ways-other n (linksAlone n lay)
-rule-other n (workOut brought) lay = need-other (validCosts n (brought .cost)) BadCost refl (ways-other n brought)
-rule-other n (edit e) lay = told-other (editRefusal n e lay) (edit-told n e lay)
-rule-other n (editList edits) lay = need-other (leb (length edits) mostEdits) ListTooLong refl (told-other (judged n 1 edits lay .refusal) (judged-told n 1 edits lay))
-rule-other n (listRoutes s t buffer) lay = writing-other n (ltb s n && ltb t n) (routeList n lay s t) buffer lay
-rule-other n (imageWrite buffer) lay = writing-other n true (imageOf n (lay .cost)) buffer lay
-rule-other n (imageRead image passing) lay = need-other (isImage n image) BadImage refl (ways-other n (laid (costsOf n image) passing))
+rule-own n (emptyHall passing) lay other = accepted-own
+rule-own n audit lay other = accepted-own
+rule-own n moveOver lay other = absurd (other refl)
+rule-own n (workOut brought) lay other = need-own (validCosts n (brought .cost)) BadCost refl refl accepted-own
+rule-own n (edit e) lay other = told-own (editRefusal n e (lay .cost)) (edit-told n e (lay .cost))
+rule-own n (editList edits) lay other =
+    need-own (leb (length edits) mostEdits) ListTooLong refl refl (told-own (judged n 1 edits lay .refusal) (judged-told n 1 edits lay))
+rule-own n (listRoutes s t buffer) lay other = writing-own n (ltb s n && ltb t n) (crowdedPair mostWays n lay s t) (routeList n lay s t) buffer lay
+rule-own n (imageWrite buffer) lay other = writing-own n true false (imageOf n (lay .cost)) buffer lay
+rule-own n (imageRead image passing) lay other = need-own (isImage n image) BadImage refl refl accepted-own
+
+-- so no call but the moving one says 11, on any tables
+pub never-eleven : (c : Call) (t : Tables) → c .ask ≢ moveOver → refusal c t ≢ TooManyWays
+unfolding refusal
+never-eleven c t another e =
+    let r : Rule = rule (c .n) (c .ask) (t .layout) in
+    let tests : Other 11 (need (r .sound t) BadTables (r .tests)) = need-other (r .sound t) BadTables refl (rule-own (c .n) (c .ask) (t .layout) another .eleven) in
+    let rest = need-other (r .fits && sized (c .n) t) BadLength refl (need-other (validPassing (c .n) (r .lent .passing)) BadPassing refl tests) in
+    let other : Other 11 (refusal c t) = need-other (upTo mostStops (c .n)) BadSize refl rest in
+    both (ap (λ r. eqb (number r) 11) e) (other .apart)
 
 -- of the tables that a book gives only the moving call asks anything
 asks-nothing : (n : ℕ) (ask : Ask) (lay : Layout) (t : Tables) → ask ≢ moveOver → rule n ask lay .soundInBook t ≡ true
@@ -434,8 +446,8 @@ pub never-bad : (c : Call) (b : Book) → c .ask ≢ moveOver → bookRefusal c 
 unfolding bookRefusal
 never-bad c b another e =
     let r : Rule = rule (c .n) (c .ask) (b .layout) in
-    let own : Other (need (r .soundInBook (tablesOf b)) BadTables (r .tests)) = rw (asks-nothing (c .n) (c .ask) (b .layout) (tablesOf b) another) (rule-other (c .n) (c .ask) (b .layout)) in
+    let own : Other 3 (need (r .soundInBook (tablesOf b)) BadTables (r .tests)) = rw (asks-nothing (c .n) (c .ask) (b .layout) (tablesOf b) another) (rule-own (c .n) (c .ask) (b .layout) another .three) in
     let brief = need-other (validPassing (c .n) (r .lent .passing)) BadPassing refl own in
     let rest = need-other (r .fits && eqb (c .n) (b .stops)) BadLength refl brief in
-    let other : Other (bookRefusal c b) = need-other (upTo mostStops (c .n)) BadSize refl rest in
-    both (ap (λ r. eqb (number r) 3) e) (other .not-three)
+    let other : Other 3 (bookRefusal c b) = need-other (upTo mostStops (c .n)) BadSize refl rest in
+    both (ap (λ r. eqb (number r) 3) e) (other .apart)

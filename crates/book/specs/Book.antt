@@ -1,12 +1,12 @@
 -- The book of document 01, sequences of calls, and demand 3 as a type. Assumes nothing.
 use Prim.Native.Nat.{ℕ, _+_, _<_}
 use mathlib.Core.Path.{_≡_}
-use mathlib.Core.Bool.{Bool, false, cond, not, _&&_}
+use mathlib.Core.Bool.{Bool, true, false, cond, not, _&&_}
 use mathlib.Core.List.{List, [], _∷_, _++_, map}
 use lib.Dec.{eqb, ltb}
 use lib.ListN.{getD}
 use Rattle.routes.specs.Route.{sumTo, allTo, has}
-use Rattle.book.specs.Hall.{Layout, laid, Tables, scale, entry, filled, validPassing, noPassing, noLinks, touched}
+use Rattle.book.specs.Hall.{Layout, laid, Tables, mostWays, scale, entry, filled, validPassing, noPassing, noLinks, uncrowded, touched}
 use Rattle.book.specs.Call.{Ask, emptyHall, moveOver, edit, editList, Call, Rule, rule, withLayout, Answer, accepted, run, touchedBy, chain, reply, refusal, after, answer, Done, reversal}
 use Rattle.book.specs.declared.Edit.{Edit}
 use Rattle.book.specs.declared.Refusal.{Refusal}
@@ -19,7 +19,7 @@ pub record Book : Type 0 where
 
 -- the tables that the book gives: those of its layout
 abbrev pub tablesOf : Book → Tables
-tablesOf b = filled scale (b .stops) (b .layout)
+tablesOf b = filled scale mostWays (b .stops) (b .layout)
 
 -- a call is refused by the same tests: 2 if its n is not N or what it brings does not fit, 13 by the passing times that it is lent, 3 by the
 -- moving call alone, where the tables that the book gives are not also those of the old scale and limit with links alone
@@ -88,10 +88,10 @@ pub record SetFacts (n : ℕ) (sources : ℕ → Bool) (t t′ : Tables) (a : An
       getD (t′ .score) x 0 + sumTo n (λ s. cond (has (a .touched) s) (entry n (t .share) s x) 0) ≡
       getD (t .score) x 0 + sumTo n (λ s. cond (has (a .touched) s) (entry n (t′ .share) s x) 0)
 
--- an accepted edit: beyond that, each row of its set changes
+-- an accepted edit: beyond that, each row of its set changes, if no pair is crowded before or after
 pub record EditFacts (n : ℕ) (e : Edit) (t t′ : Tables) (a : Answer) : Type 0 where
   pub set : SetFacts n (touched n (t .layout) (t′ .layout) (e .u) (e .v)) t t′ a
-  pub changes : (s : ℕ) → s < n → changed n t t′ s ≡ has (a .touched) s
+  pub changes : uncrowded mostWays n (t .layout) ≡ true → uncrowded mostWays n (t′ .layout) ≡ true → (s : ℕ) → s < n → changed n t t′ s ≡ has (a .touched) s
   pub tells : a .before ≡ entry n (t .layout .cost) (e .u) (e .v)
   pub reverses : Reverses (record { n = n; ask = edit (reversal (e .kind) (e .u) (e .v) a) }) t t′ a
 
@@ -123,7 +123,7 @@ pub record Started (from : Start) (N : ℕ) (start : Tables) : Type 0 where
 -- demand 3, from an empty or a moved hall: the tables after the sequence, the answers in it, its accepted edits, and its accepted lists of edits
 unfoldable pub Demand3 : Type 0
 Demand3 = (from : Start) (N : ℕ) (start : Tables) (steps : List Step) → Started from N start → Sequence start steps →
-    (run kept steps start ≡ filled scale N (run bookAfter (callsOf steps) (firstBook from N start) .layout)) ×
+    (run kept steps start ≡ filled scale mostWays N (run bookAfter (callsOf steps) (firstBook from N start) .layout)) ×
     (map (λ s. s .answer) steps ≡ bookAnswers (callsOf steps) (firstBook from N start)) ×
     ((before rest : List Step) (s : Step) (e : Edit) → steps ≡ before ++ s ∷ rest → s .call .ask ≡ edit e →
     s .answer .refusal ≡ Accepted → EditFacts (s .call .n) e (run kept before start) (s .left) (s .answer)) ×

@@ -1,12 +1,12 @@
 -- The hall (weighted directed graph) of document 01: its limits, its five tables and what they hold when they are right,
--- its routes as bytes, and its image (serialised form); with the passing times of document 02, §7. Numbers are unbounded here: what comes
--- from code is bytes. Assumes nothing.
+-- its routes as bytes, and its image (serialised form); with the passing times of document 02, §7, and its crowded pairs, §8. Numbers are
+-- unbounded here: what comes from code is bytes. Assumes nothing.
 use Prim.Native.Nat.{ℕ, zero, suc, _+_, _*_, _-_, _/_, _%_}
 use mathlib.Core.Bool.{Bool, cond, not, _&&_, _||_}
 use mathlib.Core.List.{List, [], _∷_, _++_, map}
 use lib.Dec.{eqb, ltb, leb}
 use lib.ListN.{length, getD, replicate}
-use Rattle.routes.specs.Route.{Costs, sumTo, joinTo, listTo, allTo, same, link, costsFrom, leastTime, ways, quickestRoutes, share, score, used}
+use Rattle.routes.specs.Route.{Costs, sumTo, joinTo, listTo, allTo, same, link, costsFrom, leastTime, quickestRoutes, crowded, cappedWays, openShare, score, used}
 
 -- the limits of a hall and of a list of edits, and the scale L; the mark stands with the times
 abbrev pub mostStops : ℕ
@@ -73,11 +73,18 @@ entry n l s t = getD l (s * n + t) 0
 abbrev pub costsIn : ℕ → Layout → ℕ → Costs
 costsIn n l s = costsFrom (entry n (l .cost)) (λ v. getD (l .passing) v 0) s
 
--- the tables of the hall of a layout, by listing every route; L is the scale
-unfoldable pub filled : ℕ → ℕ → Layout → Tables
-filled L n l =
+-- the tables of the hall of a layout, by listing every route; L is the scale, m the limit of ways: the entry of a crowded pair, one with
+-- more than m ways, is m + 1, and it adds nothing to shares
+unfoldable pub filled : (L m n : ℕ) → Layout → Tables
+filled L m n l =
     let C : ℕ → Costs = costsIn n l in
-    record { layout = l; time = table n (λ s. leastTime (C s) n s); ways = table n (λ s. ways (C s) n s); share = table n (λ s. share (C s) n s L); score = listTo n (score C n L) }
+    record {
+      layout = l;
+      time = table n (λ s. leastTime (C s) n s);
+      ways = table n (λ s. cappedWays (C s) n s m);
+      share = table n (λ s. openShare (C s) n s m L);
+      score = listTo n (score C n m L);
+    }
 
 -- each table has its length
 unfoldable pub sized : ℕ → Tables → Bool
@@ -108,15 +115,18 @@ linksAlone n l = laid (l .cost) (noPassing n)
 abbrev pub noLinks : ℕ → (passing : List ℕ) → Layout
 noLinks n passing = laid (replicate (n * n) 0) passing
 
--- no pair has more than m ways
-unfoldable pub uncrowded : ℕ → ℕ → Layout → Bool
-uncrowded m n l = allTo n (λ s. allTo n (λ t. leb (ways (costsIn n l s) n s t) m))
+-- the pair s, t is crowded: it has more than m ways; and no pair of the hall is
+abbrev pub crowdedPair : (m n : ℕ) → Layout → ℕ → ℕ → Bool
+crowdedPair m n l s t = crowded (costsIn n l s) n s m t
+
+unfoldable pub uncrowded : (m n : ℕ) → Layout → Bool
+uncrowded m n l = allTo n (λ s. allTo n (λ t. not (crowdedPair m n l s t)))
 
 -- the tables belong to their hall: what audit tests
-unfoldable pub right : ℕ → ℕ → ℕ → Tables → Bool
+unfoldable pub right : (L m n : ℕ) → Tables → Bool
 right L m n t =
-    let f : Tables = filled L n (t .layout) in
-    validCosts n (t .layout .cost) && (uncrowded m n (t .layout) && (same (t .time) (f .time) && (same (t .ways) (f .ways) && (same (t .share) (f .share) && same (t .score) (f .score)))))
+    let f : Tables = filled L m n (t .layout) in
+    validCosts n (t .layout .cost) && (same (t .time) (f .time) && (same (t .ways) (f .ways) && (same (t .share) (f .share) && same (t .score) (f .score))))
 
 -- a quickest route from s, in the layout before or after, uses the link u to v
 unfoldable pub touched : ℕ → Layout → Layout → ℕ → ℕ → ℕ → Bool

@@ -3,7 +3,7 @@
 pub mod limits;
 pub mod number_of;
 
-// The answers of a call: the documents' thirteen refusals, and acceptance. specs/Call.antt has their numbers.
+// The answers of a call: the documents' fourteen refusals, and acceptance. specs/Call.antt has their numbers.
 pub enum Refusal {
     Accepted,
     BadSize,
@@ -19,6 +19,7 @@ pub enum Refusal {
     TooManyWays,
     ListTooLong,
     BadPassing,
+    CrowdedPair,
 }
 
 // The kinds of edit of a link.

@@ -11,7 +11,7 @@ impl Hall {
     pub const STOPS: usize = 64;
 
     pub const CELLS: usize = Hall::STOPS * Hall::STOPS;
-    // The largest cost of a link, the longest time that it takes to pass a stop, and the most ways of a pair.
+    // The largest cost of a link, the longest time that it takes to pass a stop, and the most ways of a pair that is not crowded.
     pub const LARGEST_COST: u32 = 65535;
 
     pub const LARGEST_PASSING: u32 = 65535;

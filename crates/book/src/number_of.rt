@@ -21,6 +21,7 @@ pub fn number_of(r: Refusal) -> u32
         Refusal::TooManyWays => 11,
         Refusal::ListTooLong => 12,
         Refusal::BadPassing => 13,
+        Refusal::CrowdedPair => 14,
     }
 }
 

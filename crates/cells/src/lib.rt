@@ -1,5 +1,4 @@
-// The entries of a hall's tables: lengths and places, valid costs, sums of shares, and copies.
+// The entries of a hall's tables: lengths and places, valid costs, and sums of shares.
 pub mod costs;
 pub mod places;
 pub mod scores;
-pub mod snapshot;

@@ -9,11 +9,11 @@ use native.Mathlib.Decide.{ℕ-discrete}
 use native.Mathlib.Omega.{arith}
 use lib.Dec.{eqb, leb}
 use lib.ListN.{length, getD}
-use borrow.Author.Tests.{eqb-false, ltb-true, lt-ltb, not-true, not-false}
-use Rattle.routes.specs.Route.{Costs, mark, has, leastTime, ways, share}
+use borrow.Author.Tests.{eqb-false, ltb-true, lt-ltb}
+use Rattle.routes.specs.Route.{Costs, mark, has, leastTime, cappedWays, openShare}
 use Rattle.routes.specs.Equations.{tight}
 use Rattle.routes.proofs.Booleans.{both}
-use Rattle.routes.proofs.Sums.{is-false, cond-true, cond-false, all-cong}
+use Rattle.routes.proofs.Sums.{is-false, cond-true, cond-false}
 use Rattle.routes.proofs.Flows.{Flows}
 use Rattle.routes.proofs.Transfer.{SameRow, Loose, Harmless, transfer}
 use Rattle.routes.proofs.Tight.{tight-true}
@@ -21,24 +21,22 @@ use Rattle.routes.proofs.Cheaper.{Cheaper, Tells, improves, left-false, falls}
 use Rattle.routes.proofs.Touched.{same-row-sym, meets, dearer-tells, cheaper-tells, meets-tells}
 use Rattle.routes.proofs.Passing.{link-from, linked-from, own-from, only-from, cheaper-from}
 use Rattle.routes.proofs.Joined.{useful-from}
-use Rattle.links.specs.Promise.{dearest, stay, masked, maskedFrom, AllLinks}
+use Rattle.links.specs.Promise.{dearest, stay, masked, maskedFrom}
 use Rattle.links.proofs.Masked.{masked-small}
-use Rattle.book.specs.Hall.{Layout, laid, largestCost, largestPassing, entry, costsIn, filled, uncrowded}
+use Rattle.book.specs.Hall.{Layout, laid, largestCost, largestPassing, entry, costsIn, filled}
 use Rattle.book.proofs.Tables.{length-table, entry-table}
-use Rattle.tables.specs.Promise.{Job, Square, rowOf, parts, free, Worked, FilledAll}
-use Rattle.tables.proofs.Parts.{parts-ext}
+use Rattle.tables.specs.Promise.{Job, Square, rowOf, parts, Worked}
 use Rattle.book.proofs.Small.{Workable, costs-within, passing-within, within, flow}
-use Rattle.tables.proofs.Masked.{job, job-flows, all-rows, same-rowOf, same-free}
-use Rattle.tables.proofs.Worked.{worked-of, worked-parts, uncrowded-rows, free-rows}
+use Rattle.tables.proofs.Masked.{job, job-flows, all-rows, same-rowOf}
+use Rattle.tables.proofs.Worked.{worked-of, worked-parts}
 use Rattle.touch.specs.Promise.{crosses, Chosen}
 use Rattle.touch.proofs.Masks.{all-chosen}
 use Rattle.changes.specs.Promise.{Reworked}
 
--- the tables of a hall without a crowded pair, and other costs, which differ at links of a set alone, where all rise or all fall
+-- the tables of a hall, and other costs, which differ at links of a set alone, where all rise or all fall
 pub record Changes (m L n : ℕ) (links : ℕ → ℕ → Bool) (rising : Bool) (lay : Layout) (cost′ times counts shares : List ℕ) : Type 0 where
   pub workable : Workable n lay
-  pub uncrowded : uncrowded m n lay ≡ true
-  pub worked : Worked L n lay times counts shares
+  pub worked : Worked m L n lay times counts shares
   pub workable′ : Workable n (laid cost′ (lay .passing))
   pub only : (a b : ℕ) → a < n → b < n → entry n (lay .cost) a b ≢ entry n cost′ a b → links a b ≡ true
   pub up : rising ≡ true → Cheaper (entry n (lay .cost)) (entry n cost′) n
@@ -67,18 +65,15 @@ module _ {m L n : ℕ} {links : ℕ → ℕ → Bool} {rising : Bool} {lay : Lay
   abbrev d : ℕ → ℕ → ℕ
   d s t = leastTime (C s) n s t
 
-  all-free : (s : ℕ) → s < n → free m (C s) n s ≡ true
-  all-free = free-rows m n lay (h .uncrowded)
-
   rows : (s : ℕ) → s < n → parts n times counts shares s ≡ rowOf m L (C s) n s
-  rows = worked-parts m L n lay times counts shares all-free (h .workable .most) (h .worked)
+  rows = worked-parts m L n lay times counts shares (h .workable .most) (h .worked)
 
   pub lengths : Square n times counts shares
   unfolding filled
   lengths = record {
     times = ap length (h .worked .times) ∙ length-table n d;
-    counts = ap length (h .worked .counts) ∙ length-table n (λ s. ways (C s) n s);
-    shares = ap length (h .worked .shares) ∙ length-table n (λ s. share (C s) n s L);
+    counts = ap length (h .worked .counts) ∙ length-table n (λ s. cappedWays (C s) n s m);
+    shares = ap length (h .worked .shares) ∙ length-table n (λ s. openShare (C s) n s m L);
   }
 
   small : n * dearest < mark
@@ -183,51 +178,12 @@ module _ {m L n : ℕ} {links : ℕ → ℕ → Bool} {rising : Bool} {lay : Lay
 
   -- a set of sources that leaves out only rows that stay, and its rows worked out over the chosen links
   module _ (sources : ℕ) (stays : (s : ℕ) → s < n → has sources s ≡ false → SameRow (costsIn n lay s) (costsIn n (laid cost′ (lay .passing)) s) n s)
-      (times′ counts′ shares′ : List ℕ) (crowded : Bool) (r : Reworked m L n links rising sources (laid cost′ (lay .passing)) times counts shares times′ counts′ shares′ crowded) where
-    same : (s : ℕ) → s < n → SameRow (over (r .out) s) (C′ s) n s
-    same = chosen-rows (r .out) (r .chosen)
-
-    said-changed : crowded ≡ not (uncrowded m n lay′)
-    said-changed = r .filled .said ∙ ap not (all-cong n (λ s l. go s l (has sources s) refl) ∙ sym (uncrowded-rows m n lay′))
-      where
-        go : (s : ℕ) → s < n → (b : Bool) → has sources s ≡ b → (not b || free m (over (r .out) s) n s) ≡ free m (C′ s) n s
-        go s l true e = same-free m (over (r .out) s) (C′ s) n s (same s l)
-        go s l false e = sym (sym (same-free m (C s) (C′ s) n s (stays s l e)) ∙ all-free s l)
-
-    worked-changed : uncrowded m n lay′ ≡ true → Worked L n lay′ times′ counts′ shares′
-    worked-changed e = worked-of m L n lay′ times′ counts′ shares′ (free-rows m n lay′ e) (r .filled .lengths) λ s l. r .filled .rows s ∙ go s l (has sources s) refl
+      (times′ counts′ shares′ : List ℕ) (r : Reworked m L n links rising sources (laid cost′ (lay .passing)) times counts shares times′ counts′ shares′) where
+    -- leaves the tables of the new costs
+    pub worked-changed : Worked m L n (laid cost′ (lay .passing)) times′ counts′ shares′
+    worked-changed = worked-of m L n lay′ times′ counts′ shares′ (r .filled .lengths) λ s l. r .filled .rows s ∙ go s l (has sources s) refl
       where
         go : (s : ℕ) → s < n → (b : Bool) → has sources s ≡ b →
             cond b (rowOf m L (over (r .out) s) n s) (parts n times counts shares s) ≡ rowOf m L (C′ s) n s
-        go s l true e = same-rowOf m L (over (r .out) s) (C′ s) n s (same s l)
+        go s l true e = same-rowOf m L (over (r .out) s) (C′ s) n s (chosen-rows (r .out) (r .chosen) s l)
         go s l false e = rows s l ∙ same-rowOf m L (C s) (C′ s) n s (stays s l e)
-
-    -- put back: the old costs, and the rows over all their links
-    module _ (cost″ times″ counts″ shares″ : List ℕ) (crowded″ : Bool) (back : Reworked m L n links true sources (laid cost″ (lay .passing)) times′ counts′ shares′ times″ counts″ shares″ crowded″) (costs : cost″ ≡ lay .cost) where
-      again : Reworked m L n links true sources (laid (lay .cost) (lay .passing)) times′ counts′ shares′ times″ counts″ shares″ crowded″
-      again = rw costs at back
-
-      all : AllLinks n (lay .cost) (again .out)
-      all = all-chosen n links (lay .cost) times′ (again .out) (again .chosen)
-
-      same-parts : (s : ℕ) → s < n → parts n times″ counts″ shares″ s ≡ parts n times counts shares s
-      same-parts s l = again .filled .rows s ∙ go (has sources s) (r .filled .rows s)
-        where
-          go : (b : Bool) → parts n times′ counts′ shares′ s ≡ cond b (rowOf m L (over (r .out) s) n s) (parts n times counts shares s) →
-              cond b (rowOf m L (maskedFrom n s (lay .cost) (lay .passing) (again .out)) n s) (parts n times′ counts′ shares′ s) ≡ parts n times counts shares s
-          go true e = same-rowOf m L (maskedFrom n s (lay .cost) (lay .passing) (again .out)) (C s) n s (all-rows (h .workable) (again .out) all s l) ∙ sym (rows s l)
-          go false e = e
-
-      pub tried-back : crowded ≡ true → FilledAll m L n (laid cost′ (lay .passing)) times counts shares times″ counts″ shares″ false
-      tried-back e = record {
-        said = sym (not-true _ (sym said-changed ∙ e));
-        times = parts-ext n times″ times (again .filled .lengths .times) (lengths .times) (λ s l. ap (λ p. p .time) (same-parts s l));
-        counts = parts-ext n counts″ counts (again .filled .lengths .counts) (lengths .counts) (λ s l. ap (λ p. p .ways) (same-parts s l));
-        shares = parts-ext n shares″ shares (again .filled .lengths .shares) (lengths .shares) (λ s l. ap (λ p. p .share) (same-parts s l));
-      }
-
-    pub tried : crowded ≡ false → FilledAll m L n (laid cost′ (lay .passing)) times counts shares times′ counts′ shares′ true
-    tried e =
-        let none : uncrowded m n lay′ ≡ true = not-false _ (sym said-changed ∙ e) in
-        let w : Worked L n lay′ times′ counts′ shares′ = worked-changed none in
-        record { said = sym none; times = w .times; counts = w .counts; shares = w .shares }

@@ -1,9 +1,9 @@
 -- An edit changes the cost of one link: what this does to the layout, and which sources it touches. Assumes nothing.
-use Prim.Native.Nat.{ℕ, zero, suc, _+_, _*_, _<_, _≤_}
+use Prim.Native.Nat.{ℕ, _+_, _*_, _<_, _≤_}
 use mathlib.Core.Path.{_≡_, refl, sym, _∙_, ap}
 use mathlib.Core.Logic.{_≢_}
 use mathlib.Core.Bool.{Bool, true, false, and-eq-true-iff, true≢false}
-use mathlib.Core.List.{List, [], _∷_}
+use mathlib.Core.List.{List}
 use native.Mathlib.Omega.{arith}
 use lib.Dec.{eqb, ltb}
 use lib.ListN.{length, getD, set, length-set}
@@ -15,19 +15,13 @@ use Rattle.routes.proofs.Transfer.{SameRow}
 use Rattle.routes.proofs.Touched.{OneLink, one-silent, one-link, one-cheaper, meets}
 use Rattle.routes.proofs.Passing.{only-from, differs-from}
 use Rattle.links.specs.Promise.{stay}
-use Rattle.book.specs.Hall.{Layout, largestCost, entry, costsIn, validCosts, touched}
+use Rattle.book.specs.Hall.{Layout, entry, costsIn, validCosts, touched}
 use Rattle.book.specs.Call.{withCost}
-use Rattle.book.proofs.Tables.{entry-set, only-set, valid-costs, valid-set}
+use Rattle.book.proofs.Tables.{entry-set, only-set, valid-set}
 use Rattle.book.proofs.Small.{Workable}
 use Rattle.touch.specs.Promise.{rises, crosses, oneLink, Found}
 use Rattle.changes.specs.Promise.{Change}
 use Rattle.changes.proofs.Changes.{Changes, time-at, crosses-tell, meets-tell}
-
--- an entry that is put back
-pub put-back : (l : List ℕ) (i x : ℕ) → set (set l i x) i (getD l i 0) ≡ l
-put-back [] i x = refl
-put-back (y ∷ l) zero x = refl
-put-back (y ∷ l) (suc i) x = ap (λ m. y ∷ m) (put-back l i x)
 
 module _ {m L n u v new : ℕ} {lay : Layout} {times counts shares : List ℕ} (h : Change m L n u v new lay times counts shares) where
   abbrev cost : List ℕ
@@ -68,16 +62,6 @@ module _ {m L n u v new : ℕ} {lay : Layout} {times counts shares : List ℕ} (
   pub workable′ : Workable n lay′
   workable′ = record { most = h .most; square = square′; long = h .long; valid = valid′; passable = h .passable }
 
-  -- the same after another cost is written there, as the old one is when it is put back
-  pub square″ : (x : ℕ) → length (set cost′ (u * n + v) x) ≡ n * n
-  square″ x = length-set cost′ (u * n + v) x ∙ square′
-
-  pub valid″ : (x : ℕ) → x ≤ largestCost → validCosts n (set cost′ (u * n + v) x) ≡ true
-  valid″ x l = valid-set n cost′ u v x square′ (h .from) (h .to) (h .apart) l valid′
-
-  pub old-fits : old ≤ largestCost
-  old-fits = valid-costs n cost (h .valid) .most u v (h .from) (h .to)
-
   -- where the cost rises, there was a link; else there is one, no dearer than before
   up : rises old new ≡ true → (0 < old) × (0 < new → old ≤ new)
   up e = split (eqb new 0)
@@ -96,7 +80,6 @@ module _ {m L n u v new : ℕ} {lay : Layout} {times counts shares : List ℕ} (
   pub changes : Changes m L n (oneLink u v) (rises old new) lay cost′ times counts shares
   changes = record {
     workable = record { most = h .most; square = h .square; long = h .long; valid = h .valid; passable = h .passable };
-    uncrowded = h .uncrowded;
     worked = h .worked;
     workable′ = workable′;
     only = λ a b k l ne. let (p, q) = only a b k l ne in and-eq-true-iff (eqb a u) (eqb b v) .1 (eq-eqb a u p, eq-eqb b v q);

@@ -11,7 +11,7 @@ use borrow.Author.Tests.{eqb-true, ltb-true}
 use Rattle.routes.specs.Route.{has}
 use Rattle.routes.proofs.Booleans.{both}
 use Rattle.routes.proofs.Bits.{has-setOf, ones-setOf}
-use Rattle.book.specs.Hall.{Tables, mostEdits, scale, filled, sized, Layout}
+use Rattle.book.specs.Hall.{Tables, mostEdits, mostWays, scale, filled, sized, Layout}
 use Rattle.book.specs.Call.{Call, editList, accepted, withEdits, touchedBy, judged, rule, refusal, refusedAt, Done, withLayout}
 use Rattle.book.specs.Contract.{ofList, Audited}
 use Rattle.book.specs.declared.Edit.{Edit}
@@ -40,7 +40,7 @@ sized-with n t lay costs passings = rw (costs, passings)
 -- what the edits that were made ask to be put back
 module _ (n : ℕ) (start : Tables) (made : List Edit) (c : Course) (t : Tables) (r : Running n start made c t) where
   abbrev now : Tables
-  now = filled scale n (withEdits n made (start .layout))
+  now = filled scale mostWays n (withEdits n made (start .layout))
 
   member-of : (s : ℕ) → s < n → has (c .touched) s ≡ touchedBy n made (start .layout) s
   member-of s l = rw (r .union) (member n (touchedBy n made (start .layout)) s l)
@@ -58,10 +58,9 @@ module _ (n : ℕ) (start : Tables) (made : List Edit) (c : Course) (t : Tables)
           lengths = sized-with n t (start .layout) square long ∙ a .inside .lengths;
           valid = r .held .valid;
           passable = r .held .passable;
-          few = r .held .few;
           below = λ s e. ltb-true s n (and-eq-true-iff (ltb s n) (touchedBy n made (start .layout) s) .0 (sym (has-setOf n (touchedBy n made (start .layout)) s) ∙ (rw (r .union) at e)) .0);
-          rows = λ s l away. rw (r .now) (row-of n (start .layout) (withEdits n made (start .layout)) s l (stops n (r .held .size) .1) (r .held .few)
-              (row-same n (filled scale n (start .layout)) now s (list-stays n 1 made (start .layout) (r .held) (r .taken) s l (sym (member-of s l) ∙ away))));
+          rows = λ s l away. rw (r .now) (row-of n (start .layout) (withEdits n made (start .layout)) s l (stops n (r .held .size) .1)
+              (row-same n (filled scale mostWays n (start .layout)) now s (list-stays n 1 made (start .layout) (r .held) (r .taken) s l (sym (member-of s l) ∙ away))));
         });
       }
 
@@ -134,19 +133,19 @@ module _ (n : ℕ) (list : List Edit) (start : Tables) (edits : List Edit) (c : 
         }))
 
     -- refused at an edit: the tables are put back
-    back-again : t′ ≡ cond (eqb (c .done) 0) t (filled scale n (undo c (t .layout))) → t′ ≡ start
+    back-again : t′ ≡ cond (eqb (c .done) 0) t (filled scale mostWays n (undo c (t .layout))) → t′ ≡ start
     unfolding undone filled
     back-again left = go (eqb (c .done) 0) refl left
       where
         r : Running n start (p .made) c t
         r = p .running
 
-        go : (b : Bool) → eqb (c .done) 0 ≡ b → t′ ≡ cond b t (filled scale n (undo c (t .layout))) → t′ ≡ start
+        go : (b : Bool) → eqb (c .done) 0 ≡ b → t′ ≡ cond b t (filled scale mostWays n (undo c (t .layout))) → t′ ≡ start
         go true none same =
             let idle : c .done ≡ 0 = eqb-true (c .done) 0 none in
             let first : t .layout ≡ start .layout = rw idle at (r .back) in
-            same ∙ r .now ∙ ap (filled scale n) (sym (ap (λ x. x .layout) (r .now)) ∙ first) ∙ r .begins
-        go false some same = same ∙ ap (filled scale n) (r .back) ∙ r .begins
+            same ∙ r .now ∙ ap (filled scale mostWays n) (sym (ap (λ x. x .layout) (r .now)) ∙ first) ∙ r .begins
+        go false some same = same ∙ ap (filled scale mostWays n) (r .back) ∙ r .begins
 
     ends-refused : accepted (c .refusal) ≡ false → Done call start t′ (ofList a)
     unfolding rule

@@ -36,10 +36,10 @@ use Rattle.course.proofs.Verdicts.{withEdits-more, touchedBy-more, judg
 -- these edits were made, and no other: the tables are theirs, the course has what they touched, and what it keeps takes them back
 pub record Running (n : ℕ) (start : Tables) (made : List Edit) (c : Course) (t : Tables) : Type 0 where
   pub held : Held n (start .layout)
-  pub begins : filled scale n (start .layout) ≡ start
+  pub begins : filled scale mostWays n (start .layout) ≡ start
   pub many : c .done ≡ length made
   pub taken : accepted (judged n 1 made (start .layout) .refusal) ≡ true
-  pub now : t ≡ filled scale n (withEdits n made (start .layout))
+  pub now : t ≡ filled scale mostWays n (withEdits n made (start .layout))
   pub union : c .touched ≡ setOf n (touchedBy n made (start .layout))
   pub long : (length (c .spots) ≡ mostEdits) × (length (c .costs) ≡ mostEdits)
   pub inside : (i : ℕ) → i < c .done → getD (c .spots) i 0 < n * n
@@ -86,7 +86,7 @@ running-begins : (n long : ℕ) (t : Tables) → accepted (admits n long t) ≡ 
 unfolding run judged undone touchedBy filled
 running-begins n long t ok =
     let a = admitted n long t ok .0 in
-    let filling = right-true scale mostWays n t (a .sound) .2 in
+    let filling = right-true scale mostWays n t (a .sound) .1 in
     record {
       held = held-right n t (a .inside .size) (a .inside .lengths) (a .inside .passable) (a .sound);
       begins = filling;
@@ -112,7 +112,7 @@ module _ (n : ℕ) (e : Edit) (t t′ : Tables) (a : EditAnswer) (d : Done (reco
   abbrev call : Call
   call = record { n = n; ask = edit e }
 
-  edit-judged : Audited n t → a .refusal ≡ editRefusal n e (t .layout)
+  edit-judged : Audited n t → a .refusal ≡ editRefusal n e (t .layout .cost)
   unfolding rule
   edit-judged sound = done-refusal call t d ∙ behind-audit call t (λ s. refl) refl refl sound
 
@@ -126,7 +126,7 @@ module _ (n : ℕ) (e : Edit) (t t′ : Tables) (a : EditAnswer) (d : Done (reco
       let p = permitted n e (t .layout) (ap accepted (sym (edit-judged sound)) ∙ ok) in
       (p .from, p .to, stops n (sound .inside .size) .1)
 
-  edit-left : accepted (a .refusal) ≡ true → t′ ≡ filled scale n (withEdit n e (t .layout))
+  edit-left : accepted (a .refusal) ≡ true → t′ ≡ filled scale mostWays n (withEdit n e (t .layout))
   unfolding after rule
   edit-left ok = d .left ∙ rw (accepts ∙ ok)
 
@@ -151,8 +151,8 @@ module _ (n : ℕ) (start : Tables) (made : List Edit) (c : Course) (t : Tables)
   sound : Audited n t
   sound = running-audited n start made c t r
 
-  next-judged : a .refusal ≡ editRefusal n e here
-  next-judged = edit-judged n e t t′ a d sound ∙ ap (editRefusal n e) now-here
+  next-judged : a .refusal ≡ editRefusal n e (here .cost)
+  next-judged = edit-judged n e t t′ a d sound ∙ ap (λ x. editRefusal n e (x .cost)) now-here
 
   -- the verdict with it
   judged-next : judged n 1 (made ++ e ∷ []) (start .layout) ≡
@@ -168,7 +168,7 @@ module _ (n : ℕ) (start : Tables) (made : List Edit) (c : Course) (t : Tables)
     abbrev spot : ℕ
     spot = e .u * n + e .v
 
-    left : t′ ≡ filled scale n (withEdit n e (t .layout))
+    left : t′ ≡ filled scale mostWays n (withEdit n e (t .layout))
     left = edit-left n e t t′ a d ok
 
     left-layout : t′ .layout ≡ withEdit n e (t .layout)
@@ -206,7 +206,7 @@ module _ (n : ℕ) (start : Tables) (made : List Edit) (c : Course) (t : Tables)
       begins = r .begins;
       many = simp length-append (omega (arith, r .many));
       taken = rw (judged-next, ok);
-      now = left ∙ ap (filled scale n) (ap (withEdit n e) now-here ∙ sym (withEdits-more n made e (start .layout)));
+      now = left ∙ ap (filled scale mostWays n) (ap (withEdit n e) now-here ∙ sym (withEdits-more n made e (start .layout)));
       union = joined;
       long = (length-set (c .spots) _ _ ∙ r .long .0, length-set (c .costs) _ _ ∙ r .long .1);
       inside = kept-inside;

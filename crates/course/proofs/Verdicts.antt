@@ -44,18 +44,18 @@ pub judged-more : (n k : ℕ) (edits : List Edit) (e : Edit) (lay : Layout) → 
     judged n k (edits ++ e ∷ []) lay ≡ cond (accepted (first .refusal)) (judged n (k + length edits) (e ∷ []) (withEdits n edits lay)) first
 unfolding run judged
 judged-more n k [] e lay = let same : k + 0 ≡ k = omega arith in rw same
-judged-more n k (x ∷ edits) e lay = go (accepted (editRefusal n x lay)) refl (judged-more n (k + 1) edits e next)
+judged-more n k (x ∷ edits) e lay = go (accepted (editRefusal n x (lay .cost))) refl (judged-more n (k + 1) edits e next)
   where
     next : Layout
     next = withEdit n x lay
 
     stopped : Verdict
-    stopped = record { refusal = editRefusal n x lay; place = k }
+    stopped = record { refusal = editRefusal n x (lay .cost); place = k }
 
     later : Verdict
     later = judged n (k + 1) edits next
 
-    go : (b : Bool) → accepted (editRefusal n x lay) ≡ b →
+    go : (b : Bool) → accepted (editRefusal n x (lay .cost)) ≡ b →
         judged n (k + 1) (edits ++ e ∷ []) next ≡ cond (accepted (later .refusal)) (judged n (k + 1 + length edits) (e ∷ []) (withEdits n edits next)) later →
         cond b (judged n (k + 1) (edits ++ e ∷ []) next) stopped ≡
         cond (accepted (cond b later stopped .refusal)) (judged n (k + length (x ∷ edits)) (e ∷ []) (withEdits n edits next)) (cond b later stopped)
@@ -63,11 +63,11 @@ judged-more n k (x ∷ edits) e lay = go (accepted (editRefusal n x lay)) refl (
     go false first more = rw first
 
 -- what refuses a list before its first edit is 1, 2, 13, 3 or 12
-pub admits-none : (n length : ℕ) (t : Tables) → let r : Refusal = admits n length t in (ltb (number r) 4 || ltb 11 (number r)) ≡ true
+pub admits-none : (n length : ℕ) (t : Tables) → let r : Refusal = admits n length t in (ltb (number r) 4 || ltb 8 (number r)) ≡ true
 admits-none n length t = go (upTo mostStops n) (sized n t) (validPassing n (t .layout .passing)) (right scale mostWays n t) (leb length mostEdits)
   where
     go : (size lengths passable sound short : Bool) →
-        let r : Refusal = need size BadSize (need lengths BadLength (need passable BadPassing (need sound BadTables (need short ListTooLong Accepted)))) in (ltb (number r) 4 || ltb 11 (number r)) ≡ true
+        let r : Refusal = need size BadSize (need lengths BadLength (need passable BadPassing (need sound BadTables (need short ListTooLong Accepted)))) in (ltb (number r) 4 || ltb 8 (number r)) ≡ true
     go false lengths passable sound short = refl
     go true false passable sound short = refl
     go true true false sound short = refl

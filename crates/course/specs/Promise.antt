@@ -8,7 +8,7 @@ use lib.Count.{ones}
 use lib.Dec.{eqb, ltb, leb}
 use lib.ListN.{length, getD, set, replicate}
 use Rattle.routes.specs.Route.{has}
-use Rattle.book.specs.Hall.{Layout, laid, Tables, mostStops, mostWays, mostEdits, scale, upTo, costsIn, filled, sized, validCosts, validPassing, uncrowded, right}
+use Rattle.book.specs.Hall.{Layout, laid, Tables, mostStops, mostWays, mostEdits, scale, upTo, costsIn, filled, sized, validCosts, validPassing, right}
 use Rattle.book.specs.Call.{accepted, need, chain, edit, withLayout, Done}
 use Rattle.book.specs.Contract.{ofEdit, Audited}
 use Rattle.book.specs.declared.Edit.{Edit}
@@ -69,13 +69,12 @@ undone (suc k) spots costs cost = undone k spots costs (set cost (getD spots k 0
 abbrev pub undo : Course → Layout → Layout
 undo c l = laid (undone (c .done) (c .spots) (c .costs) (l .cost)) (l .passing)
 
--- tables with valid costs and no crowded pair, whose rows outside a set are those of their hall
+-- tables with valid costs, whose rows outside a set are those of their hall
 pub record RightOutside (n sources : ℕ) (t : Tables) : Type 0 where
   pub size : upTo mostStops n ≡ true
   pub lengths : sized n t ≡ true
   pub valid : validCosts n (t .layout .cost) ≡ true
   pub passable : validPassing n (t .layout .passing) ≡ true
-  pub few : uncrowded mostWays n (t .layout) ≡ true
   pub below : (s : ℕ) → has sources s ≡ true → s < n
   pub rows : (s : ℕ) → s < n → has sources s ≡ false → parts n (t .time) (t .ways) (t .share) s ≡ rowOf mostWays scale (costsIn n (t .layout) s) n s
 
@@ -93,4 +92,4 @@ Closing n c t = accepted (c .refusal) ≡ false → 0 < c .done → Undoes n c t
 pub record Finished (n : ℕ) (c : Course) (a : ListAnswer) (t t′ : Tables) : Type 0 where
   pub taken : accepted (c .refusal) ≡ true → (a ≡ record { refusal = c .refusal; place = 0; rows = ones (c .touched); touched = c .touched }) × (t′ ≡ t)
   pub refused : accepted (c .refusal) ≡ false → (a ≡ record { refusal = c .refusal; place = c .place; rows = 0; touched = 0 }) ×
-      (t′ ≡ cond (eqb (c .done) 0) t (filled scale n (undo c (t .layout))))
+      (t′ ≡ cond (eqb (c .done) 0) t (filled scale mostWays n (undo c (t .layout))))

@@ -7,7 +7,7 @@ use tables::rows;
 ghost use mathlib.Core.Path.{_≡_};
 ghost use Prim.Native.Nat.{ℕ, _<_, _≤_};
 ghost use lib.ListN.{length, getD};
-ghost use Rattle.book.specs.Hall.{mostEdits, scale, filled};
+ghost use Rattle.book.specs.Hall.{mostEdits, mostWays, scale, filled};
 ghost use Rattle.book.specs.Contract.{these, left, leftBeside, foundLayout};
 ghost use Rattle.course.specs.Promise.{undone, undo, RightOutside, Undoes};
 
@@ -38,7 +38,7 @@ fn put_rows(
     score: &mut [u64],
 )
     requires { ⌜ RightOutside n set (these cost passing time ways share score) ⌝ }
-    ensures { λ r. ⌜ leftBeside cost passing time ways share score ≡ filled scale n (foundLayout cost passing) ⌝ }
+    ensures { λ r. ⌜ leftBeside cost passing time ways share score ≡ filled scale mostWays n (foundLayout cost passing) ⌝ }
 {
     let mut out = [0u64; 64];
     all_links(n, cost, &mut out);
@@ -69,7 +69,7 @@ pub fn put_back(
     score: &mut [u64],
 )
     requires { ⌜ Undoes n course (these cost passing time ways share score) ⌝ }
-    ensures { λ r. ⌜ left cost passing time ways share score ≡ filled scale n (undo course (foundLayout cost passing)) ⌝ }
+    ensures { λ r. ⌜ left cost passing time ways share score ≡ filled scale mostWays n (undo course (foundLayout cost passing)) ⌝ }
 {
     put_costs(course, cost);
     let set = course.touched;

@@ -46,7 +46,7 @@ fn apply(
 {
     let before = places::read_entry(n, u, v, cost);
     let touched = touch::touched_set(n, u, v, new, cost, passing, time);
-    if !rework::try_cost(
+    rework::set_cost(
         limit,
         scale,
         n,
@@ -59,9 +59,7 @@ fn apply(
         time,
         ways,
         share,
-    ) {
-        return refused(Refusal::TooManyWays);
-    }
+    );
     scores::sum_scores(n, share, score);
     EditAnswer {
         refusal: Refusal::Accepted,

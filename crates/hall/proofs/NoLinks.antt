@@ -1,6 +1,6 @@
 -- The tables of a hall without links. Assumes nothing.
 use Rattle.routes.proofs.Booleans.{bool-iff}
-use Prim.Native.Nat.{ℕ, _+_, _*_, _/_, _<_, _≤_}
+use Prim.Native.Nat.{ℕ, suc, _+_, _*_, _/_, _<_, _≤_, min}
 use mathlib.Core.Path.{_≡_, refl, sym, _∙_, ap}
 use mathlib.Core.Bool.{Bool, true, false, cond, _||_, and-true, _&&_, and-false}
 use mathlib.Core.List.{List}
@@ -10,14 +10,15 @@ use lib.Arith.{digits-lt}
 use lib.Dec.{eqb, ltb}
 use lib.ListN.{length, replicate, length-replicate, getD-replicate, set, length-set}
 use borrow.Author.Tests.{eqb-true, eq-eqb, ne-eqb, ltb-true, lt-ltb, eqb-false, le-ltb}
-use Rattle.routes.specs.Route.{Costs, mark, leastTime, ways, through, portion, share, score}
+use Rattle.routes.specs.Route.{Costs, mark, leastTime, ways, through, portion, share, cappedWays, openShare, score}
 use Rattle.routes.specs.Equations.{Times, Within}
 use Rattle.routes.proofs.Bits.{split}
 use Rattle.routes.proofs.Sums.{cond-true, cond-false, sumTo-zero}
 use Rattle.routes.proofs.Rows.{listTo-of}
 use Rattle.routes.proofs.Times.{times, ways-source, ways-reached}
 use Rattle.routes.proofs.Unique.{times-unique}
-use Rattle.book.specs.Hall.{laid, scale, entry, costsIn, filled, noLinks}
+use Rattle.routes.proofs.Bounds.{open-le}
+use Rattle.book.specs.Hall.{laid, mostWays, scale, entry, costsIn, filled, noLinks}
 use Rattle.book.proofs.Tables.{table-of, entry-set}
 use Rattle.book.specs.Contract.{tables}
 use Rattle.hall.specs.Promise.{Blank, Diagonal}
@@ -49,16 +50,26 @@ module _ (W : Costs) (n s : ℕ) (none : (u v : ℕ) → u < n → v < n → W u
     where
       zero-of : {x : ℕ} → (0 < x → ⊥) → x ≡ 0
       zero-of h = omega (arith, h)
-      -- no stop has a share
 
-  pub alone-share : (L v : ℕ) → v < n → share W n s L v ≡ 0
+  -- no stop has a share
+  alone-none : (L v : ℕ) → v < n → share W n s L v ≡ 0
   unfolding share portion
-  alone-share L v l =
+  alone-none L v l =
       split (eqb v s) (λ e. rw e) λ e. rw e (sumTo-zero n {f = portion W n s L v} (λ t k. split (eqb s t) (λ f. rw (← eqb-true s t f, eq-eqb s s refl)) (λ f. far t (eqb t s || eqb t v) (alone-ways t k ∙ cond-false 1 0 f))))
     where
       far : (t : ℕ) (b : Bool) → ways W n s t ≡ 0 → cond b 0 (L * through W n s v t / ways W n s t) ≡ 0
       far t true e = refl
       far t false e = rw e (div-zero _)
+
+  pub alone-capped : (m t : ℕ) → t < n → cappedWays W n s (suc m) t ≡ cond (eqb s t) 1 0
+  alone-capped m t l = rw (alone-ways t l) (go (eqb s t))
+    where
+      go : (b : Bool) → min (suc (suc m)) (cond b 1 0) ≡ cond b 1 0
+      go true = omega arith
+      go false = omega arith
+
+  pub alone-share : (m L v : ℕ) → v < n → openShare W n s m L v ≡ 0
+  alone-share m L v l = omega (arith, open-le W n s m L v, alone-none L v l)
 
 -- the diagonal is x, all else is y
 module _ (n x y : ℕ) (old now : List ℕ) (blank : old ≡ replicate (n * n) y) (d : Diagonal n n x old now) where
@@ -81,23 +92,23 @@ module _ (n : ℕ) (passing : List ℕ) where
   none : (s u v : ℕ) → u < n → v < n → bare s u v ≡ 0
   none s u v k l = rw (zero u v k l)
 
-  bare-score : (v : ℕ) → v < n → score bare n scale v ≡ 0
+  bare-score : (v : ℕ) → v < n → score bare n mostWays scale v ≡ 0
   unfolding score
-  bare-score v l = sumTo-zero n (λ s k. alone-share (bare s) n s (none s) k scale v l)
+  bare-score v l = sumTo-zero n (λ s k. alone-share (bare s) n s (none s) k mostWays scale v l)
 
   made : {costs times counts shares times′ counts′ scores : List ℕ} → Blank (n * n) costs times counts shares → Diagonal n n 0 times times′ →
-      Diagonal n n 1 counts counts′ → scores ≡ replicate n 0 → tables costs passing times′ counts′ shares scores ≡ filled scale n (noLinks n passing)
+      Diagonal n n 1 counts counts′ → scores ≡ replicate n 0 → tables costs passing times′ counts′ shares scores ≡ filled scale mostWays n (noLinks n passing)
   unfolding filled
   made {costs} {times} {counts} {shares} {times′} {counts′} {scores} b d e z = λ i. record {
     layout = laid (b .costs i) passing;
     time = table-of n (λ s. leastTime (bare s) n s) times′ (length-diagonal n 0 mark times times′ (b .times) d) (λ s t k l. entry-diagonal n 0 mark times times′ (b .times) d s t k l ∙ sym (alone-time (bare s) n s (none s) k t l)) i;
-    ways = table-of n (λ s. ways (bare s) n s) counts′ (length-diagonal n 1 0 counts counts′ (b .counts) e) (λ s t k l. entry-diagonal n 1 0 counts counts′ (b .counts) e s t k l ∙ sym (alone-ways (bare s) n s (none s) k t l)) i;
-    share = (b .shares ∙ table-of n (λ s. share (bare s) n s scale) (replicate (n * n) 0) (length-replicate (n * n) 0) (λ s t k l. zero s t k l ∙ sym (alone-share (bare s) n s (none s) k scale t l))) i;
-    score = (z ∙ listTo-of n (score bare n scale) 0 (replicate n 0) (length-replicate n 0) (λ v l. getD-replicate n v 0 0 l ∙ sym (bare-score v l))) i;
+    ways = table-of n (λ s. cappedWays (bare s) n s mostWays) counts′ (length-diagonal n 1 0 counts counts′ (b .counts) e) (λ s t k l. entry-diagonal n 1 0 counts counts′ (b .counts) e s t k l ∙ sym (alone-capped (bare s) n s (none s) k 11 t l)) i;
+    share = (b .shares ∙ table-of n (λ s. openShare (bare s) n s mostWays scale) (replicate (n * n) 0) (length-replicate (n * n) 0) (λ s t k l. zero s t k l ∙ sym (alone-share (bare s) n s (none s) k mostWays scale t l))) i;
+    score = (z ∙ listTo-of n (score bare n mostWays scale) 0 (replicate n 0) (length-replicate n 0) (λ v l. getD-replicate n v 0 0 l ∙ sym (bare-score v l))) i;
   }
 
   pub emptied : {cells k : ℕ} {costs times counts shares times′ counts′ scores : List ℕ} → cells ≡ n * n → k ≡ n → Blank cells costs times counts shares →
-      Diagonal n n 0 times times′ → Diagonal n n 1 counts counts′ → scores ≡ replicate k 0 → tables costs passing times′ counts′ shares scores ≡ filled scale n (noLinks n passing)
+      Diagonal n n 0 times times′ → Diagonal n n 1 counts counts′ → scores ≡ replicate k 0 → tables costs passing times′ counts′ shares scores ≡ filled scale mostWays n (noLinks n passing)
   emptied p q b d e z = made (rw p at b) d e (z ∙ ap (λ k. replicate k 0) q)
 
 -- the diagonal, place by place

@@ -44,5 +44,5 @@ module _ (n : ℕ) (t : Tables) where
       go false shut = tests-refused c t (λ s. refl) refl r e shut
       go true ok =
           let (inside, sound) = tests-passed n t (right scale mostWays n t) e ok in
-          let taken = accepted-done c t t (ofRefusal Accepted) (behind-door c t (λ s. refl) refl inside ∙ rw sound) (sym (right-true scale mostWays n t sound .2)) refl in
+          let taken = accepted-done c t t (ofRefusal Accepted) (behind-door c t (λ s. refl) refl inside ∙ rw sound) (sym (right-true scale mostWays n t sound .1)) refl in
           subst (λ x. Done c t t (ofRefusal x)) (sym (accepted-only r ok)) taken

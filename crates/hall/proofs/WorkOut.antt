@@ -1,20 +1,19 @@
 -- Work out, from its tests and rows to what it promises. Assumes nothing.
 use Prim.Native.Nat.{ℕ, _*_}
-use mathlib.Core.Path.{_≡_, refl, sym, _∙_, subst}
-use mathlib.Core.Bool.{Bool, true, false}
+use mathlib.Core.Path.{_≡_, refl, _∙_}
+use mathlib.Core.Bool.{true, false}
 use mathlib.Core.List.{List}
 use borrow.Author.Tests.{eq-eqb}
-use Rattle.routes.proofs.Sums.{cond-true, cond-false}
 use Rattle.book.specs.Hall.{Layout, laid, Tables, mostWays, scale, filled, sized, validCosts}
-use Rattle.book.specs.Call.{Call, workOut, need, waysTest, rule, refusal, Done}
+use Rattle.book.specs.Call.{Call, workOut, need, rule, refusal, Done}
 use Rattle.book.specs.Contract.{tables, ofRefusal, Inside}
-use Rattle.book.specs.declared.Refusal.the-variants.{Accepted, BadCost, TooManyWays}
+use Rattle.book.specs.declared.Refusal.the-variants.{Accepted, BadCost}
 use Rattle.book.proofs.Sizes.{stops, lengths}
 use Rattle.book.proofs.Refused.{refused-done}
 use Rattle.book.proofs.Doors.{behind-door, accepted-done}
 use Rattle.cells.specs.Promise.{Shares, summed}
 use Rattle.cells.proofs.Sums.{summed-whole}
-use Rattle.tables.specs.Promise.{FilledAll}
+use Rattle.tables.specs.Promise.{Worked}
 use Rattle.tables.proofs.Measured.{hall-measure}
 use Rattle.book.proofs.Small.{Workable}
 use Rattle.tables.proofs.Worked.{worked-scores, worked-shares}
@@ -34,8 +33,8 @@ module _ (n : ℕ) (cost passing time ways share score : List ℕ) (i : Inside n
   abbrev found : Tables
   found = tables cost passing time ways share score
 
-  -- the tests behind the door
-  pub work-refusal : refusal call found ≡ need (validCosts n cost) BadCost (waysTest n lay)
+  -- the test behind the door
+  pub work-refusal : refusal call found ≡ need (validCosts n cost) BadCost Accepted
   unfolding rule
   work-refusal = behind-door call found (brought-fits n found) refl i
 
@@ -43,38 +42,23 @@ module _ (n : ℕ) (cost passing time ways share score : List ℕ) (i : Inside n
   unfolding rule
   work-invalid e = refused-done call found BadCost (work-refusal ∙ rw e) refl
 
-  module _ (valid : validCosts n cost ≡ true) {time′ ways′ share′ : List ℕ} {fit : Bool} (a : FilledAll mostWays scale n lay time ways share time′ ways′ share′ fit) where
-    -- a crowded pair: everything is as it was
-    pub work-crowded : fit ≡ false → Done call found (tables cost passing time′ ways′ share′ score) (ofRefusal TooManyWays)
-    unfolding rule
-    work-crowded e =
-        subst (λ t. Done call found t (ofRefusal TooManyWays)) same (refused-done call found TooManyWays (work-refusal ∙ rw (valid, sym (a .said) ∙ e)) refl)
-      where
-        same : found ≡ tables cost passing time′ ways′ share′ score
-        same j = record {
-          layout = lay;
-          time = sym (a .times ∙ cond-false _ time e) j;
-          ways = sym (a .counts ∙ cond-false _ ways e) j;
-          share = sym (a .shares ∙ cond-false _ share e) j;
-          score = score;
-        }
-
+  module _ (valid : validCosts n cost ≡ true) {time′ ways′ share′ : List ℕ} (a : Worked mostWays scale n lay time′ ways′ share′) where
     workable : Workable n lay
     workable =
         let l = lengths n found (i .lengths) in
         record { most = stops n (i .size) .1; square = l .costs; long = l .passings; valid = valid; passable = i .passable }
 
-    -- none: the sums of shares fit, and with them the tables are those of the hall
-    pub work-shares : fit ≡ true → Shares n share′
-    work-shares e = worked-shares scale n lay share′ (a .shares ∙ cond-true _ share e) (hall-measure .fine) workable
+    -- the sums of shares fit, and with them the tables are those of the hall
+    pub work-shares : Shares n share′
+    work-shares = worked-shares mostWays scale n lay share′ (a .shares) (hall-measure .fine) workable
 
-    pub work-accepted : fit ≡ true → {score′ : List ℕ} → score′ ≡ summed n n share′ score → Done call found (tables cost passing time′ ways′ share′ score′) (ofRefusal Accepted)
+    pub work-accepted : {score′ : List ℕ} → score′ ≡ summed n n share′ score → Done call found (tables cost passing time′ ways′ share′ score′) (ofRefusal Accepted)
     unfolding rule filled
-    work-accepted e {score′} sums =
-        accepted-done call found (tables cost passing time′ ways′ share′ score′) (ofRefusal Accepted) (work-refusal ∙ rw (valid, sym (a .said) ∙ e)) (λ j. record {
+    work-accepted {score′} sums =
+        accepted-done call found (tables cost passing time′ ways′ share′ score′) (ofRefusal Accepted) (work-refusal ∙ rw valid) (λ j. record {
           layout = lay;
-          time = (a .times ∙ cond-true _ time e) j;
-          ways = (a .counts ∙ cond-true _ ways e) j;
-          share = (a .shares ∙ cond-true _ share e) j;
-          score = (sums ∙ summed-whole n share′ score (lengths n found (i .lengths) .scores) ∙ worked-scores scale n lay share′ (a .shares ∙ cond-true _ share e)) j;
+          time = a .times j;
+          ways = a .counts j;
+          share = a .shares j;
+          score = (sums ∙ summed-whole n share′ score (lengths n found (i .lengths) .scores) ∙ worked-scores mostWays scale n lay share′ (a .shares)) j;
         }) refl

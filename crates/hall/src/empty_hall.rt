@@ -7,7 +7,7 @@ use cells::places;
 ghost use mathlib.Core.Path.{_≡_};
 ghost use Prim.Native.Nat.{_*_, _≤_};
 ghost use lib.ListN.{length, replicate};
-ghost use Rattle.book.specs.Hall.{scale, filled, noLinks};
+ghost use Rattle.book.specs.Hall.{mostWays, scale, filled, noLinks};
 ghost use Rattle.book.specs.Call.{emptyHall, Done};
 ghost use Rattle.book.specs.Contract.{these, found, left, ofRefusal, Inside};
 ghost use Rattle.hall.specs.Promise.{Blank, Diagonal};
@@ -56,7 +56,7 @@ fn make_empty(
     score: &mut [u64],
 )
     requires { ⌜ Inside n (these cost passing time ways share score) ⌝ }
-    ensures { λ r. ⌜ left cost passing time ways share score ≡ filled scale n (noLinks n (now (passing .entry))) ⌝ }
+    ensures { λ r. ⌜ left cost passing time ways share score ≡ filled scale mostWays n (noLinks n (now (passing .entry))) ⌝ }
 {
     blank(places::cells(n), cost, time, ways, share);
     diagonal(n, time, ways);

@@ -1,14 +1,13 @@
 -- What the writing and the reading of images promise. Assumes nothing.
 use Prim.Native.Nat.{ℕ, _*_, _≤_}
 use mathlib.Core.Path.{_≡_}
-use mathlib.Core.Bool.{Bool, true, cond}
+use mathlib.Core.Bool.{true, cond}
 use mathlib.Core.List.{List, [], _∷_, _++_}
 use lib.Dec.{ltb}
 use lib.ListN.{length, getD, drop}
 use Rattle.routes.specs.Route.{sumTo}
-use Rattle.book.specs.Hall.{laid, mostWays, scale, entry, validCosts, lowFirst, costsOf}
+use Rattle.book.specs.Hall.{entry, validCosts, lowFirst}
 use Rattle.book.specs.Written.{recordsTo, linksTo}
-use Rattle.tables.specs.Promise.{FilledAll}
 
 -- 1 for the cost of a link, 0 where there is none; its record, no byte where there is none; and the number of links of a cost table
 abbrev pub linkBit : ℕ → ℕ
@@ -32,8 +31,3 @@ pub record Room (n : ℕ) (cost buffer : List ℕ) : Type 0 where
 pub record Wrote (n : ℕ) (cost : List ℕ) (u v at u′ v′ end : ℕ) (before after : List ℕ) : Type 0 where
   pub place : end ≡ 4 * linksTo n (entry n cost) u′ v′
   pub bytes : (old : List ℕ) → length old ≡ length before → before ≡ recordsTo n (entry n cost) u v ++ drop at old → after ≡ recordsTo n (entry n cost) u′ v′ ++ drop end old
-
--- the tables of an image's hall, but for the scores, where no pair is crowded, else the tables as they were
-pub record Loaded (n : ℕ) (image passing cost time ways share cost′ time′ ways′ share′ : List ℕ) (fits : Bool) : Type 0 where
-  pub costs : cost′ ≡ cond fits (costsOf n image) cost
-  pub others : FilledAll mostWays scale n (laid (costsOf n image) passing) time ways share time′ ways′ share′ fits

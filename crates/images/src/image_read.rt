@@ -4,22 +4,28 @@ use book::limits::Hall;
 use book::number_of::passes;
 use cells::places;
 use cells::scores;
-use cells::snapshot;
 use hall::door::door;
 use image_form::fields;
 use image_form::image_check;
-use tables::fill_all;
+use tables::fill_all::fill_all;
 ghost use mathlib.Core.Path.{_≡_};
 ghost use mathlib.Core.Bool.{true};
-ghost use Prim.Native.Nat.{_*_, _<_, _≤_};
+ghost use Prim.Native.Nat.{_*_, _≤_};
 ghost use lib.ListN.{length, replicate};
-ghost use Rattle.book.specs.Hall.{validPassing, isImage, costsOf};
+ghost use Rattle.book.specs.Hall.{isImage, costsOf};
 ghost use Rattle.book.specs.Call.{imageRead, Done};
 ghost use Rattle.book.specs.Contract.{these, found, left, ofRefusal, Inside};
-ghost use Rattle.tables.specs.Promise.{Square};
-ghost use Rattle.images.specs.Promise.{Loaded};
 
-// Sets the costs of an image's links in a table without links.
+// A table without links.
+fn no_links(cost: &mut [u32])
+    ensures { λ r. ⌜ now (cost .exit) ≡ replicate (length (now (cost .entry))) 0 ⌝ }
+{
+    for i in 0..cost.len() {
+        cost[i] = 0;
+    }
+}
+
+// Sets the costs of an image's links in such a table.
 fn read_costs(n: usize, image: &[u8], cost: &mut [u32])
     requires { ⌜ (n ≤ 64) × (isImage n (now image) ≡ true) × (now cost ≡ replicate (n * n) 0) ⌝ }
     ensures { λ r. ⌜ now (cost .exit) ≡ costsOf n (now (image .entry)) ⌝ }
@@ -34,41 +40,7 @@ fn read_costs(n: usize, image: &[u8], cost: &mut [u32])
     }
 }
 
-// Works out the hall of an image. Where a pair has too many ways, it says false and the tables are as they were.
-fn load(
-    n: usize,
-    image: &[u8],
-    cost: &mut [u32],
-    passing: &[u32],
-    time: &mut [u32],
-    ways: &mut [u32],
-    share: &mut [u64],
-) -> bool
-    requires { ⌜ (0 < n) × (n ≤ 64) × (isImage n (now image) ≡ true) × (length (now cost) ≡ n * n) ⌝ }
-    requires { ⌜ (length (now passing) ≡ n) × (validPassing n (now passing) ≡ true) ⌝ }
-    requires { ⌜ Square n (now time) (now ways) (now share) ⌝ }
-    ensures { λ r. ⌜ Loaded n (now (image .entry)) (now (passing .entry)) (now (cost .entry)) (now (time .entry)) (now (ways .entry)) (now (share .entry)) (now (cost .exit)) (now (time .exit)) (now (ways .exit)) (now (share .exit)) r ⌝ }
-{
-    let cells = places::cells(n);
-    let mut costs = [0u32; Hall::CELLS];
-    read_costs(n, image, &mut costs[..cells]);
-    if !fill_all::fill_all(
-        Hall::WAYS,
-        Hall::SCALE,
-        n,
-        &costs[..cells],
-        passing,
-        time,
-        ways,
-        share,
-    ) {
-        return false;
-    }
-    snapshot::copy32(cells, &costs[..cells], cost);
-    true
-}
-
-// Image read behind the door: tests 9 and 11, and the tables.
+// Image read behind the door: test 9, and the tables.
 fn read_tables(
     n: usize,
     image: &[u8],
@@ -85,9 +57,9 @@ fn read_tables(
     if !image_check::is_image(n, image) {
         return Refusal::BadImage;
     }
-    if !load(n, image, cost, passing, time, ways, share) {
-        return Refusal::TooManyWays;
-    }
+    no_links(cost);
+    read_costs(n, image, cost);
+    fill_all(Hall::WAYS, Hall::SCALE, n, cost, passing, time, ways, share);
     scores::sum_scores(n, share, score);
     Refusal::Accepted
 }

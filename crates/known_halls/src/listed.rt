@@ -19,10 +19,17 @@ use calls::tables::link;
 use calls::tables::place;
 use make_call::Done;
 
-// What a whole share counts, and what it counted before.
+// The most ways of a pair that is not crowded and what a whole share counts, and both before.
+const LIMIT: u32 = 12;
+
 const SCALE: u32 = 27720;
 
+const OLD_LIMIT: u32 = 22;
+
 const OLD_SCALE: u32 = 232792560;
+
+// No pair has more ways.
+const NO_LIMIT: u32 = 4294967295;
 
 // Takes the first entries over from a table of 64 bits.
 fn narrowed(from: &[u64], count: usize, table: &mut [u32; CELLS]) {
@@ -32,7 +39,7 @@ fn narrowed(from: &[u64], count: usize, table: &mut [u32; CELLS]) {
 }
 
 // The tables t, but for the lister's times, ways, shares and scores of their costs and passing times.
-fn by_scale(n: u64, scale: u32, t: Tables) -> Tables {
+fn by(n: u64, limit: u32, scale: u32, t: Tables) -> Tables {
     let cost = t.cost;
     let passing = t.passing;
     let mut times = [0u64; CELLS];
@@ -45,6 +52,7 @@ fn by_scale(n: u64, scale: u32, t: Tables) -> Tables {
         &cost,
         &passing,
         n,
+        limit,
         scale,
         &mut times,
         &mut counts,
@@ -64,12 +72,22 @@ fn by_scale(n: u64, scale: u32, t: Tables) -> Tables {
 }
 
 pub fn listed(n: u64, t: Tables) -> Tables {
-    by_scale(n, SCALE, t)
+    by(n, LIMIT, SCALE, t)
 }
 
-// By the old scale.
+// As if no pair were crowded.
+pub fn unlimited(n: u64, t: Tables) -> Tables {
+    by(n, NO_LIMIT, SCALE, t)
+}
+
+// By the old numbers.
 pub fn old(n: u64, t: Tables) -> Tables {
-    by_scale(n, OLD_SCALE, t)
+    by(n, OLD_LIMIT, OLD_SCALE, t)
+}
+
+// By the old scale, as if no pair were crowded.
+pub fn old_unlimited(n: u64, t: Tables) -> Tables {
+    by(n, NO_LIMIT, OLD_SCALE, t)
 }
 
 // The entries of the tables left that are not those of the costs `wanted`.
@@ -77,9 +95,9 @@ pub fn unlisted_tables(n: u64, wanted: Tables, left: Tables) -> u64 {
     differing(listed(n, wanted), left)
 }
 
-// The most ways of a pair, by the lister.
+// The most ways of a pair, by the lister, which counts them all.
 pub fn most_ways(n: u64, t: Tables) -> u64 {
-    tables::most_ways(n, listed(n, t))
+    tables::most_ways(n, unlimited(n, t))
 }
 
 // The sources from which a quickest route, before or after, uses the link of an edit.

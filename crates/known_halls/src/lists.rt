@@ -1,4 +1,4 @@
-// Lists of edits: a shift change, the longest list and one that is too long, and too many ways in passing.
+// Lists of edits: a shift change, the longest list and one that is too long, and a crowded pair in passing.
 use super::line;
 use super::report;
 use super::report::no_inserts;
@@ -91,14 +91,32 @@ pub fn most_edits() {
     one_by_one(t);
 }
 
-// The link of 9 closes and opens again.
-fn crowded(t: Tables) -> Tables {
+// The link of 9 closes and opens again: the pair is crowded between.
+fn crowded(t: Tables) {
     let closed = then(then(no_edits(), INSERT, 14, 0, 7), DELETE, 0, 14, 0);
     let list = then(closed, INSERT, 0, 14, 9);
-    made(b"insert 14 0, delete 0 14, insert 0 14: ", 15, list, t, t)
+    made(b"insert 14 0, delete 0 14, insert 0 14: ", 15, list, t, t);
 }
 
-// So does a link of the last way, before it and behind it.
+// It closes, and then a link of the last way, so that 12 are left; or it closes twice.
+fn closed(t: Tables) {
+    let once = then(no_edits(), DELETE, 0, 14, 0);
+    let left = made(
+        b"delete 0 14, delete 13 14: ",
+        15,
+        then(once, DELETE, 13, 14, 0),
+        t,
+        t,
+    );
+    report::pair(14, left);
+    report::middle(13, 14, left);
+    let twice = then(once, DELETE, 0, 14, 0);
+    made(b"delete 0 14, delete 0 14: ", 15, twice, t, t);
+    let crowded = made(b"delete 0 14: ", 15, once, t, t);
+    report::pair(14, crowded);
+}
+
+// Before it closes and behind it a link of the last way does so too.
 fn uncrowded(t: Tables) {
     let closed = then(then(no_edits(), DELETE, 13, 14, 0), DELETE, 0, 14, 0);
     let list = then(then(closed, INSERT, 0, 14, 9), INSERT, 13, 14, 5);
@@ -113,5 +131,8 @@ fn uncrowded(t: Tables) {
 
 pub fn in_passing() {
     say(b"13 ways of time 10 in passing, 15 stops\n");
-    uncrowded(crowded(report::worked(15, link(15, 0, 14, 9, fan(15, 14)))));
+    let t = report::worked(15, link(15, 0, 14, 9, fan(15, 14)));
+    crowded(t);
+    closed(t);
+    uncrowded(t);
 }

@@ -1,5 +1,6 @@
 // Runs the hall calls on the known halls of document 01 that no theorem covers, holds what they answer
 // and leave against the slow lister, and writes both.
+mod crowded;
 mod line;
 mod listed;
 mod lists;
@@ -21,6 +22,10 @@ fn main() {
     ways::worn_link();
     sums::none_in_16_bits();
     sums::right_in_16_bits();
+    crowded::looks_the_same();
+    crowded::not_right();
+    crowded::routes();
+    crowded::image();
     line::longest();
     lists::shift_change();
     lists::most_edits();

@@ -76,17 +76,22 @@ pub fn most() {
 }
 
 // The old tables of a hall of ways by each stop between the first and the last; they are to stay.
-fn crowded(name: &[u8], n: u64, last: u64) {
+fn not_over(name: &[u8], n: u64, last: u64) {
     let old = listed::old(n, fan(n, last));
     over(name, n, old, old);
 }
 
-// One way more than the limit, as many as the old limit, and one more than that.
+// One way more than the limit, as many as the old limit, and one more than that: with the entry 23 and no shares, or with all shares,
+// which are cut to whole numbers. The old numbers have no crowded pairs.
 pub fn too_many() {
     say(b"13, 22 and 23 ways not moved over\n");
-    crowded(b"13 ways: move over ", 15, 14);
-    crowded(b"22 ways: move over ", 24, 23);
-    crowded(b"23 ways: move over ", 25, 24);
+    not_over(b"13 ways: move over ", 15, 14);
+    not_over(b"22 ways: move over ", 24, 23);
+    not_over(b"23 ways: move over ", 25, 24);
+    let all = listed::old_unlimited(25, fan(25, 24));
+    over(b"23 ways with their shares: move over ", 25, all, all);
+    let today = report::worked(15, fan(15, 14));
+    over(b"13 ways, tables of today: move over ", 15, today, today);
 }
 
 // No route has a stop between its ends, so that the old tables are the new ones.

@@ -127,10 +127,10 @@ fn twelve() {
 pub fn ways_made() {
     say(b"12 and 13 ways by passing times, 14 and 15 stops\n");
     twelve();
-    let t = levelled(14, slanted(15, 14));
-    let left = report::work_out(b"work out ", 15, t);
-    report::same(left, t);
-    end();
+    let t = report::worked(15, levelled(14, slanted(15, 14)));
+    report::pair(14, t);
+    report::middle(14, 14, t);
+    quickest::shown(15, 0, 14, 53, t);
 }
 
 // Of 12 ways of time 10 in links, that by stop 1 is the quickest to pass; behind it that by stop 2.
@@ -148,10 +148,9 @@ fn one_left() {
 
 // Of 13 ways of time 10 in links, that by stop 13 takes 1 more to pass.
 fn twelve_left() {
-    let t = fan(15, 14);
-    let left = report::work_out(b"work out ", 15, t);
-    report::same(left, t);
-    end();
+    let t = report::worked(15, fan(15, 14));
+    report::pair(14, t);
+    report::middle(14, 14, t);
     let fewer = report::worked(15, pass(13, 1, t));
     report::pair(14, fewer);
     report::middle(13, 14, fewer);

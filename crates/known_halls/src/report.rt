@@ -5,6 +5,7 @@ use super::tables;
 use super::text::end;
 use super::text::field;
 use super::text::say;
+use calls::answer::Answer;
 use calls::call::AUDIT;
 use calls::call::Call;
 use calls::call::EDIT_LIST;
@@ -32,8 +33,8 @@ fn made(call: Call, image: &[u8], t: Tables) -> Done {
 }
 
 // Holds a call against the lister. An accepted one is to leave the costs `wanted` and their listed
-// tables, and `unlisted` counts what else of it is not the lister's; one refused with 11 would have
-// left `wanted`. Of both the lister tells the most ways of a pair.
+// tables, and `unlisted` counts what else of it is not the lister's; a moving call that is refused with 11
+// met `wanted`. Of both the lister tells the most ways of a pair.
 fn held(n: u64, refusal: u64, unlisted: u64, wanted: Tables, left: Tables) {
     if refusal == 0 {
         let entries = listed::unlisted_tables(n, wanted, left);
@@ -116,12 +117,15 @@ pub fn edit(name: &[u8], number: u64, n: u64, u: u64, v: u64, cost: u64, t: Tabl
     )
 }
 
-// How many edits of a list were judged.
-fn judged(length: usize, refusal: u64, place: u64) -> usize {
-    if refusal == 0 { length } else { place as usize }
+// Holds an accepted list against the lister.
+fn held_list(n: u64, list: List, answer: Answer, t: Tables, left: Tables) {
+    let passed = listed::after(n, list, list.length, t);
+    let unlisted = listed::unlisted_set(passed.touched, answer);
+    let wanted = passed.tables;
+    held(n, 0, unlisted, wanted, left);
 }
 
-// A list of edits. One refused at an edit with 11 would have passed the costs that this edit leaves.
+// A list of edits.
 pub fn list(name: &[u8], n: u64, list: List, t: Tables) -> Tables {
     let mut none = [0u8; 1];
     let done = make(plain(EDIT_LIST, n), list, n, 0, b"-", &mut none, t);
@@ -131,11 +135,9 @@ pub fn list(name: &[u8], n: u64, list: List, t: Tables) -> Tables {
     field(b", place ", answer.place);
     field(b", touched ", answer.touched);
     field(b", rows ", answer.rows);
-    let count = judged(list.length, answer.refusal, answer.place);
-    let passed = listed::after(n, list, count, t);
-    let unlisted = listed::unlisted_set(passed.touched, answer);
-    let wanted = passed.tables;
-    held(n, answer.refusal, unlisted, wanted, left);
+    if answer.refusal == 0 {
+        held_list(n, list, answer, t, left);
+    }
     left
 }
 

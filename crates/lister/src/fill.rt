@@ -1,4 +1,5 @@
-// The tables' entries, read off a tally. The scale is what a whole share counts.
+// The tables' entries, read off a tally. The scale is what a whole share counts. A pair with more ways than a limit is crowded: its
+// entry of ways is the limit and one more, and it adds nothing to shares.
 ghost use mathlib.Core.Path.{_≡_};
 ghost use Prim.Native.Nat.{_*_, _≤_, _<_};
 ghost use lib.ListN.{drop, set};
@@ -32,9 +33,23 @@ fn put_entry(table: &mut [u64], n: usize, u: usize, v: usize, x: u64)
     put(table, cell(n, u, v), x);
 }
 
+// Whether so many ways are more than the limit.
+fn crowded(limit: u32, all: u64) -> bool {
+    wide(limit) < all
+}
+
+// The entry for so many ways.
+fn entry(limit: u32, all: u64) -> u64 {
+    if crowded(limit, all) {
+        wide(limit) + 1
+    } else {
+        all
+    }
+}
+
 // What the quickest routes from s to t give v: the scale times those that stop at v ÷ all. Where t is
-// s or v they give nothing.
-fn portion(scale: u32, tally: &[u64; ROOM], s: usize, t: usize, v: usize) -> u64
+// s or v they give nothing, nor where they are too many.
+fn portion(limit: u32, scale: u32, tally: &[u64; ROOM], s: usize, t: usize, v: usize) -> u64
     requires { ⌜ t ≤ 255 ⌝ }
     requires { ⌜ v ≤ 255 ⌝ }
 {
@@ -48,11 +63,14 @@ fn portion(scale: u32, tally: &[u64; ROOM], s: usize, t: usize, v: usize) -> u64
     if all == 0 {
         return 0;
     }
+    if crowded(limit, all) {
+        return 0;
+    }
     wide(scale) * through_to(tally, t, v) / all
 }
 
 // The share of v in the routes from s, 0 for s itself. A hall's sums of shares fit 64 bits.
-fn share_of(scale: u32, tally: &[u64; ROOM], n: usize, s: usize, v: usize) -> u64
+fn share_of(limit: u32, scale: u32, tally: &[u64; ROOM], n: usize, s: usize, v: usize) -> u64
     requires { ⌜ n ≤ 64 ⌝ }
     requires { ⌜ v < n ⌝ }
 {
@@ -61,13 +79,14 @@ fn share_of(scale: u32, tally: &[u64; ROOM], n: usize, s: usize, v: usize) -> u6
     }
     let mut sum = 0;
     for t in 0..n {
-        sum = wrapping_add_u64(sum, portion(scale, tally, s, t, v));
+        sum = wrapping_add_u64(sum, portion(limit, scale, tally, s, t, v));
     }
     sum
 }
 
 // Fills the rows of s from the tally of its routes.
 pub fn fill_row(
+    limit: u32,
     scale: u32,
     n: usize,
     s: usize,
@@ -84,8 +103,8 @@ pub fn fill_row(
 {
     for t in 0..n {
         put_entry(time, n, s, t, time_to(tally, t));
-        put_entry(ways, n, s, t, ways_to(tally, t));
-        put_entry(share, n, s, t, share_of(scale, tally, n, s, t));
+        put_entry(ways, n, s, t, entry(limit, ways_to(tally, t)));
+        put_entry(share, n, s, t, share_of(limit, scale, tally, n, s, t));
     }
 }
 

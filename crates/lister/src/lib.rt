@@ -35,11 +35,13 @@ fn few(n: u64) -> usize
 }
 
 // Fills the times, the ways, the shares and the scores of a cost table and the stops' passing times; a whole share counts the scale.
-// What a lent table has behind the hall's entries stays.
+// A pair with more ways than the limit has the entry limit + 1, and adds nothing to shares. What a lent table has behind the hall's
+// entries stays.
 pub fn tables(
     cost: &[u32],
     passing: &[u32],
     n: u64,
+    limit: u32,
     scale: u32,
     time: &mut [u64],
     ways: &mut [u64],
@@ -55,7 +57,7 @@ pub fn tables(
     let mut tally = [0u64; ROOM];
     for s in 0..n {
         list(cost, passing, n, s, 0, 0, &mut tally);
-        fill_row(scale, n, s, &tally, time, ways, share);
+        fill_row(limit, scale, n, s, &tally, time, ways, share);
     }
     fill_scores(n, share, score);
 }

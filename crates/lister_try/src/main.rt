@@ -1,14 +1,19 @@
 // Writes the lister's tables of four halls, their quickest routes between some stops, and what the edits
-// that make and change the first of them touch; the second hall's tables also by the old scale; and the same
-// of halls whose stops take time to pass. The stored output was worked out apart from the lister: the first
-// two halls and those with passing times by hand, the line by formulas, the last of the four and the routes
-// of all four by listing them in another program.
+// that make and change the first of them touch; the second hall's tables also by the old numbers; and the same
+// of halls whose stops take time to pass, and of halls with crowded pairs. The stored output was worked out apart
+// from the lister: the first two halls, those with passing times and those with crowded pairs by hand, the line by
+// formulas, the last of the four and the routes of all four by listing them in another program.
+mod crowded;
 mod passing;
 
 ghost use Prim.Native.Nat.{_<_};
 
-// What a whole share counts, and what it counted before.
+// The most ways of a pair that is not crowded and what a whole share counts, and both before.
+const LIMIT: u32 = 12;
+
 const SCALE: u32 = 27720;
+
+const OLD_LIMIT: u32 = 22;
 
 const OLD_SCALE: u32 = 232792560;
 
@@ -26,16 +31,17 @@ fn at(table: &[u64], i: usize) -> u64 {
     if i < table.len() { table[i] } else { 0 }
 }
 
-// Writes the four tables of a hall of at most ten stops; they have n × n entries.
-fn hall(cost: &[u32], passing: &[u32], n: u64, scale: u32, entries: usize) {
-    let mut time = [0u64; 100];
-    let mut ways = [0u64; 100];
-    let mut share = [0u64; 100];
-    let mut score = [0u64; 10];
+// Writes the first entries of three tables of a hall of at most fifteen stops, by a limit and a scale, and its scores.
+fn listed(cost: &[u32], passing: &[u32], n: u64, limit: u32, scale: u32, entries: usize) {
+    let mut time = [0u64; 225];
+    let mut ways = [0u64; 225];
+    let mut share = [0u64; 225];
+    let mut score = [0u64; 15];
     lister::tables(
         cost,
         passing,
         n,
+        limit,
         scale,
         &mut time,
         &mut ways,
@@ -46,6 +52,11 @@ fn hall(cost: &[u32], passing: &[u32], n: u64, scale: u32, entries: usize) {
     line(b"ways", &ways, entries);
     line(b"share", &share, entries);
     line(b"score", &score, n as usize);
+}
+
+// By the numbers of today.
+fn hall(cost: &[u32], passing: &[u32], n: u64, entries: usize) {
+    listed(cost, passing, n, LIMIT, SCALE, entries);
 }
 
 fn byte_at(bytes: &[u8], i: usize) -> u64 {
@@ -165,7 +176,7 @@ fn line_of_ten() -> [u32; 100] {
 }
 
 // A hall of six stops: from each a link to every later one, as long as the links over the stops between,
-// but to the last only from 3 and 4. From 0 to 5 there are 12 ways, as many as a hall may have.
+// but to the last only from 3 and 4. From 0 to 5 there are 12 ways, the most of a pair that is not crowded.
 fn most_ways() -> [u32; 36] {
     let mut cost = [0u32; 36];
     cost[1] = 1;
@@ -195,22 +206,23 @@ fn main() {
     edit(before, diamond, none, 0, 2, 5);
     edit(before, diamond, none, 1, 3, 5);
     edit(before, diamond, none, 2, 3, 5);
-    hall(diamond, none, 4, SCALE, 16);
+    hall(diamond, none, 4, 16);
     diamond_routes(diamond, none, buffer);
     cut_off(diamond, none);
     edit(before, diamond, none, 2, 3, 4);
-    hall(diamond, none, 4, SCALE, 16);
+    hall(diamond, none, 4, 16);
     routes(diamond, none, 4, 0, 3, buffer);
     edit(before, diamond, none, 2, 3, 0);
-    hall(diamond, none, 4, SCALE, 16);
-    hall(&ties(), none, 5, SCALE, 25);
-    hall(&line_of_ten(), none, 10, SCALE, 100);
-    hall(&most_ways(), none, 6, SCALE, 36);
-    hall(&ties(), none, 5, OLD_SCALE, 25);
+    hall(diamond, none, 4, 16);
+    hall(&ties(), none, 5, 25);
+    hall(&line_of_ten(), none, 10, 100);
+    hall(&most_ways(), none, 6, 36);
+    listed(&ties(), none, 5, OLD_LIMIT, OLD_SCALE, 25);
     tied_routes(&ties(), none, buffer);
     routes(&line_of_ten(), none, 10, 0, 9, buffer);
     routes(&line_of_ten(), none, 10, 1, 9, buffer);
     routes(&most_ways(), none, 6, 0, 5, buffer);
     routes(&most_ways(), none, 6, 1, 4, buffer);
     passing::tries(buffer);
+    crowded::tries();
 }

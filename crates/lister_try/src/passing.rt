@@ -1,5 +1,4 @@
 // Halls whose stops take time to pass.
-use super::SCALE;
 use super::edit;
 use super::hall;
 use super::routes;
@@ -17,7 +16,7 @@ fn line_and_link() -> [u32; 16] {
 // The hall with these passing times, and its routes from 0 to 3.
 fn four(passing: &[u32], buffer: &mut [u8]) {
     let cost = line_and_link();
-    hall(&cost, passing, 4, SCALE, 16);
+    hall(&cost, passing, 4, 16);
     routes(&cost, passing, 4, 0, 3, buffer);
 }
 
@@ -43,7 +42,7 @@ fn short_and_long() -> [u32; 25] {
 // The hall with these passing times, and its routes from 0 to 4.
 fn five(passing: &[u32], buffer: &mut [u8]) {
     let cost = short_and_long();
-    hall(&cost, passing, 5, SCALE, 25);
+    hall(&cost, passing, 5, 25);
     routes(&cost, passing, 5, 0, 4, buffer);
 }
 
@@ -57,7 +56,7 @@ fn longer_way(buffer: &mut [u8]) {
 fn circle(buffer: &mut [u8]) {
     let cost = [0u32, 1, 0, 0, 0, 1, 1, 0, 0];
     let passing = [65535u32, 1, 0];
-    hall(&cost, &passing, 3, SCALE, 9);
+    hall(&cost, &passing, 3, 9);
     routes(&cost, &passing, 3, 2, 1, buffer);
 }
 

@@ -27,7 +27,7 @@ pub empty-audited : (n : ℕ) (t t′ : Tables) (a : Answer) → Inside n t → 
     (bookOf n t′ ≡ emptyBook n) × Audited n t′
 unfolding after refusal rule filled
 empty-audited n t t′ a i none d =
-    let e : t′ ≡ tablesOf (emptyBook n) = d .left ∙ rw (i .size, passing-fits n t (i .lengths), i .lengths, i .passable) (ap (λ p. filled scale n (noLinks n p)) none) in
+    let e : t′ ≡ tablesOf (emptyBook n) = d .left ∙ rw (i .size, passing-fits n t (i .lengths), i .lengths, i .passable) (ap (λ p. filled scale mostWays n (noLinks n p)) none) in
     (ap (bookOf n) e, audited-of (emptyBook n) t′ (held-none n (noPassing n) (i .size) (length-replicate n 0) (none-brief n)) e)
 
 module _ {n : ℕ} {t : Tables} (s : Audited n t) where
@@ -35,14 +35,14 @@ module _ {n : ℕ} {t : Tables} (s : Audited n t) where
   pub held : Held n (t .layout)
   held = held-right n t (s .inside .size) (s .inside .lengths) (s .inside .passable) (s .sound)
 
-  pub own : t ≡ filled scale n (t .layout)
-  own = sym (right-true scale mostWays n t (s .sound) .2)
+  pub own : t ≡ filled scale mostWays n (t .layout)
+  own = sym (right-true scale mostWays n t (s .sound) .1)
 
   pub few-stops : n ≤ mostStops
   few-stops = stops n (s .inside .size) .1
 
   -- a line leaves the tables of the book after it
-  pub next-audited : (l : Line) (t′ : Tables) → t′ ≡ filled scale n (next (bookOf n t) l .layout) → (bookOf n t′ ≡ next (bookOf n t) l) × Audited n t′
+  pub next-audited : (l : Line) (t′ : Tables) → t′ ≡ filled scale mostWays n (next (bookOf n t) l .layout) → (bookOf n t′ ≡ next (bookOf n t) l) × Audited n t′
   unfolding next bookAfter filled
   next-audited Unread t′ e = (ap (bookOf n) e, audited-of (bookOf n t) t′ held e)
   next-audited (Read x) t′ e =
@@ -64,11 +64,11 @@ module _ {n : ℕ} {t : Tables} (s : Audited n t) where
         leaves : Layout
         leaves = rule n (edit x) (t .layout) .leaves
 
-        go : (y : Bool) → cond y (filled scale n leaves) (tablesOf book) ≡ filled scale n (cond y leaves (t .layout))
+        go : (y : Bool) → cond y (filled scale mostWays n leaves) (tablesOf book) ≡ filled scale mostWays n (cond y leaves (t .layout))
         go true = refl
         go false = refl
 
-    pub edit-left : t′ ≡ filled scale n (next book (Read x) .layout)
+    pub edit-left : t′ ≡ filled scale mostWays n (next book (Read x) .layout)
     unfolding next bookAfter
     edit-left = d .left ∙ ap (after call) own ∙ edit-after
 

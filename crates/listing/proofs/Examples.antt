@@ -4,7 +4,7 @@ use Prim.Native.String.{String}
 use mathlib.Core.Path.{_≡_, refl}
 use mathlib.Core.List.{[], _∷_, map}
 use lib.ListN.{replicate}
-use Rattle.routes.specs.Route.{sumTo, joinTo, listTo, allTo, same, setOf, count, visits, uses, time, least, extend, hops, routes, leastTime, quickest, ways, through, portion, share, used, score}
+use Rattle.routes.specs.Route.{sumTo, joinTo, listTo, allTo, same, setOf, count, visits, uses, time, least, extend, hops, routes, leastTime, quickest, ways, through, portion, openShare, used, score}
 use Rattle.book.specs.Hall.{validCosts, validPassing, uncrowded, touched}
 use Rattle.book.specs.Call.{rule}
 use Rattle.book.specs.Book.{bookRefusal, bookAfter, bookAnswer}
@@ -18,14 +18,14 @@ use Rattle.words.specs.Text.{bytes, before, parts, words, digits, valueFrom, nu
 pub example :
     listing (bytes "hall 4\ninsert 0 1 5\ninsert 0 2 5\ninsert 1 3 5\ninsert 2 3 5\ncheapen 2 3 5\n") ≡
     bytes "hall 4 scale 27720\n2 0 1 0\n3 0 1 0\n4 0 2 0\n5 0 2 0\n6 8 0 0\nstop 0 score 0\nstop 1 score 13860\nstop 2 score 13860\nstop 3 score 0\n"
-unfolding bytes before parts digits valueFrom numberOf hallOf kindIn editOf lineOf decimalTo said next report ofLines listing sumTo joinTo listTo allTo same setOf count visits uses time least extend hops routes leastTime quickest ways through portion share used score validCosts validPassing uncrowded touched rule bookRefusal bookAfter bookAnswer
+unfolding bytes before parts digits valueFrom numberOf hallOf kindIn editOf lineOf decimalTo said next report ofLines listing sumTo joinTo listTo allTo same setOf count visits uses time least extend hops routes leastTime quickest ways through portion openShare used score validCosts validPassing uncrowded touched rule bookRefusal bookAfter bookAnswer
 example = refl
 
 -- a worn link: raised to a tie, refused at its present cost, raised past it, and a link that is not there
 pub raises :
     listing (bytes "hall 4\ninsert 0 1 5\ninsert 0 2 5\ninsert 1 3 5\ninsert 2 3 4\nraise 2 3 5\nraise 2 3 5\nraise 2 3 6\nraise 3 2 7") ≡
     bytes "hall 4 scale 27720\n2 0 1 0\n3 0 1 0\n4 0 2 0\n5 0 2 0\n6 0 2 4\n7 8 0 0\n8 0 2 5\n9 7 0 0\nstop 0 score 0\nstop 1 score 27720\nstop 2 score 0\nstop 3 score 0\n"
-unfolding bytes before parts digits valueFrom numberOf hallOf kindIn editOf lineOf decimalTo said next report ofLines listing sumTo joinTo listTo allTo same setOf count visits uses time least extend hops routes leastTime quickest ways through portion share used score validCosts validPassing uncrowded touched rule bookRefusal bookAfter bookAnswer
+unfolding bytes before parts digits valueFrom numberOf hallOf kindIn editOf lineOf decimalTo said next report ofLines listing sumTo joinTo listTo allTo same setOf count visits uses time least extend hops routes leastTime quickest ways through portion openShare used score validCosts validPassing uncrowded touched rule bookRefusal bookAfter bookAnswer
 raises = refl
 
 -- a line alone, and what it is if it is an edit
@@ -56,7 +56,7 @@ unreadLines = refl
 pub noHall :
     map (λ text. listing (bytes text)) ("" ∷ "\n" ∷ "\nhall 1" ∷ "hall" ∷ "hall 0" ∷ "hall 65\n" ∷ "hall 1 1" ∷ " hall 1" ∷ "hall 1\r\n" ∷ []) ≡
     replicate 9 (bytes "no hall\n")
-unfolding bytes before parts digits valueFrom numberOf hallOf kindIn editOf lineOf decimalTo said next report ofLines listing same sumTo joinTo share score
+unfolding bytes before parts digits valueFrom numberOf hallOf kindIn editOf lineOf decimalTo said next report ofLines listing same sumTo joinTo openShare score
 noHall = refl
 
 -- the last line feed may lack, and opens no line; an unread line changes nothing
@@ -64,5 +64,5 @@ pub lineFeeds :
     (listing (bytes "hall 1") ≡ bytes "hall 1 scale 27720\nstop 0 score 0\n") × (listing (bytes "hall 1\n") ≡ listing (bytes "hall 1")) ×
     (listing (bytes "hall 2\n\nhall 1\ndelete 0 1\ninsert 1 0 5 \ninsert 0 2 5") ≡
     bytes "hall 2 scale 27720\n2 unread\n3 unread\n4 7 0 0\n5 unread\n6 4 0 0\nstop 0 score 0\nstop 1 score 0\n")
-unfolding bytes before parts digits valueFrom numberOf hallOf kindIn editOf lineOf decimalTo said next report ofLines listing sumTo joinTo listTo allTo same setOf count visits uses time least extend hops routes leastTime quickest ways through portion share used score validCosts validPassing uncrowded touched rule bookRefusal bookAfter bookAnswer
+unfolding bytes before parts digits valueFrom numberOf hallOf kindIn editOf lineOf decimalTo said next report ofLines listing sumTo joinTo listTo allTo same setOf count visits uses time least extend hops routes leastTime quickest ways through portion openShare used score validCosts validPassing uncrowded touched rule bookRefusal bookAfter bookAnswer
 lineFeeds = (refl, refl, refl)

@@ -9,7 +9,7 @@ use lib.Seq.{length-take-le}
 use Rattle.routes.specs.Route.{joinTo, listTo, score}
 use Rattle.routes.proofs.Rows.{length-listTo, getD-listTo}
 use Rattle.bytes.specs.Bytes.{indexOf}
-use Rattle.book.specs.Hall.{Tables, scale, filled, right, costsIn}
+use Rattle.book.specs.Hall.{Tables, mostWays, scale, filled, right, costsIn}
 use Rattle.book.specs.Contract.{Audited}
 use Rattle.words.specs.declared.Line.{Line}
 use Rattle.words.specs.Text.{longest, parts, lines, words, lineOf, stopLine, said, report}
@@ -38,9 +38,9 @@ pub record Going (n : ℕ) (text : List ℕ) (first : ℕ) (out₀ : List ℕ) (
 score-lines : (n i : ℕ) (t : Tables) → Audited n t → joinTo (length (t .score)) (λ v. stopLine v (getD (t .score) v 0)) ≡ report i (bookOf n t) []
 unfolding report filled
 score-lines n i t s =
-    let scores : t .score ≡ listTo n (score (costsIn n (t .layout)) n scale) = ap (λ (t : Tables). t .score) (own s) in
-    rw (scores, length-listTo n (score (costsIn n (t .layout)) n scale))
-    (joinTo-cong n (λ v l. ap (stopLine v) (getD-listTo n (score (costsIn n (t .layout)) n scale) 0 v l)))
+    let scores : t .score ≡ listTo n (score (costsIn n (t .layout)) n mostWays scale) = ap (λ (t : Tables). t .score) (own s) in
+    rw (scores, length-listTo n (score (costsIn n (t .layout)) n mostWays scale))
+    (joinTo-cong n (λ v l. ap (stopLine v) (getD-listTo n (score (costsIn n (t .layout)) n mostWays scale) 0 v l)))
 
 module _ {n : ℕ} {text : List ℕ} {first : ℕ} {out₀ : List ℕ} {start : ℕ} {t₀ t : Tables} {out : List ℕ} {at i from : ℕ} (g : Going n text first out₀ start t₀ t out at i from) where
   -- a line further

@@ -5,7 +5,7 @@ use mathlib.Core.Bool.{true, false, cond}
 use mathlib.Core.List.{List, _++_}
 use lib.Dec.{ltb}
 use lib.ListN.{length, drop}
-use Rattle.book.specs.Hall.{Tables, scale, filled}
+use Rattle.book.specs.Hall.{Tables, mostWays, scale, filled}
 use Rattle.book.specs.Book.{Book}
 use Rattle.words.specs.Text.{longest, said, next, listing}
 use Rattle.words.specs.declared.Line.{Line}
@@ -29,7 +29,7 @@ pub record Room (i at : ℕ) (out : List ℕ) : Type 0 where
 
 -- line i, with what it says, has left the tables of the book after it, and printed what the book says
 pub record Stepped (n i : ℕ) (l : Line) (t t′ : Tables) (at : ℕ) (out : List ℕ) (end : ℕ) (out′ : List ℕ) : Type 0 where
-  pub left : t′ ≡ filled scale n (next (bookOf n t) l .layout)
+  pub left : t′ ≡ filled scale mostWays n (next (bookOf n t) l .layout)
   pub printed : Printed (said i (bookOf n t) l) at out end out′
 
 -- a text that is read, its lines from place `first` on, and an output with room for them behind place `at`

@@ -18,7 +18,8 @@ fn divide(table: &mut [u64])
     }
 }
 
-// Costs, times and ways are the same by both scales, and only read. Halls of the old scale have no passing times: each is 0.
+// Costs, times and ways are the same by both scales, and only read. Halls of the old scale have no passing times: each is 0. Nor have they a
+// pair with more than 22 ways: behind the audit by the old limit stands the test that no entry of ways is above it.
 pub fn move_over(
     n: u64,
     cost: &[u32],
@@ -46,6 +47,9 @@ pub fn move_over(
     );
     if !passes(verdict) {
         return verdict;
+    }
+    if !costs::within(Hall::OLD_WAYS, ways) {
+        return Refusal::BadTables;
     }
     if !costs::within(Hall::WAYS, ways) {
         return Refusal::TooManyWays;

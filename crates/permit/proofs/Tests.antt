@@ -7,11 +7,10 @@ use mathlib.Core.List.{List}
 use lib.Dec.{eqb, ltb}
 use borrow.Author.Tests.{eqb-false, ltb-true, not-true}
 use Rattle.book.specs.Hall.{entry, validPair}
-use Rattle.book.specs.Call.{costTests, editTests}
+use Rattle.book.specs.Call.{costTests, editRefusal}
 use Rattle.book.specs.declared.Edit.{Edit}
 use Rattle.book.specs.declared.Kind.{Kind}
 use Rattle.book.specs.declared.Refusal.{Refusal}
-use Rattle.book.specs.declared.Refusal.the-variants.{Accepted}
 
 -- what the test of two stops tells
 pub pair-true : (n u v : ℕ) → validPair n u v ≡ true → (u < n) × (v < n) × (u ≢ v)
@@ -22,5 +21,5 @@ pair-true n u v e =
 
 -- 5 to 8 by the kind and the present cost
 pub by-kind : (n : ℕ) (e : Edit) (cost : List ℕ) {k : Kind} {present : ℕ} {r : Refusal} → validPair n (e .u) (e .v) ≡ true → e .kind ≡ k →
-    present ≡ entry n cost (e .u) (e .v) → r ≡ costTests k (e .cost) present Accepted → r ≡ editTests n e cost Accepted
+    present ≡ entry n cost (e .u) (e .v) → r ≡ costTests k (e .cost) present → r ≡ editRefusal n e cost
 by-kind n e cost pair kind now h = rw (pair, kind, ← now) h

@@ -8,9 +8,8 @@ ghost use mathlib.Core.Path.{_≡_};
 ghost use Prim.Native.Nat.{_*_, _≤_};
 ghost use lib.ListN.{length};
 ghost use Rattle.book.specs.Hall.{largestCost, upTo, validPair};
-ghost use Rattle.book.specs.Call.{otherCostTests, costTests, editTests, costSet};
+ghost use Rattle.book.specs.Call.{otherCostTests, costTests, editRefusal, costSet};
 ghost use Rattle.book.specs.declared.Kind.the-variants.{Insert, Cheapen, Raise, Delete};
-ghost use Rattle.book.specs.declared.Refusal.the-variants.{Accepted};
 
 // Two different stops.
 fn is_pair(n: u64, u: u64, v: u64) -> bool
@@ -36,7 +35,7 @@ fn is_cost(c: u64) -> bool
 }
 
 fn permit_insert(c: u64, present: u32) -> Refusal
-    ensures { λ r. ⌜ r ≡ costTests Insert c present Accepted ⌝ }
+    ensures { λ r. ⌜ r ≡ costTests Insert c present ⌝ }
 {
     if !is_cost(c) {
         return Refusal::BadCost;
@@ -49,7 +48,7 @@ fn permit_insert(c: u64, present: u32) -> Refusal
 
 // Another cost for a link. `wanted` says that it lies on the side of the present one that the kind wants.
 fn permit_other_cost(wanted: bool, c: u64, present: u32) -> Refusal
-    ensures { λ r. ⌜ r ≡ otherCostTests wanted c present Accepted ⌝ }
+    ensures { λ r. ⌜ r ≡ otherCostTests wanted c present ⌝ }
 {
     if !is_cost(c) {
         return Refusal::BadCost;
@@ -64,19 +63,19 @@ fn permit_other_cost(wanted: bool, c: u64, present: u32) -> Refusal
 }
 
 fn permit_cheapen(c: u64, present: u32) -> Refusal
-    ensures { λ r. ⌜ r ≡ costTests Cheapen c present Accepted ⌝ }
+    ensures { λ r. ⌜ r ≡ costTests Cheapen c present ⌝ }
 {
     permit_other_cost(c < present as u64, c, present)
 }
 
 fn permit_raise(c: u64, present: u32) -> Refusal
-    ensures { λ r. ⌜ r ≡ costTests Raise c present Accepted ⌝ }
+    ensures { λ r. ⌜ r ≡ costTests Raise c present ⌝ }
 {
     permit_other_cost((present as u64) < c, c, present)
 }
 
 fn permit_delete(c: u64, present: u32) -> Refusal
-    ensures { λ r. ⌜ r ≡ costTests Delete c present Accepted ⌝ }
+    ensures { λ r. ⌜ r ≡ costTests Delete c present ⌝ }
 {
     if present == 0 {
         return Refusal::LinkAbsent;
@@ -87,7 +86,7 @@ fn permit_delete(c: u64, present: u32) -> Refusal
 // Tests 4 to 8. Its callers prove that the cost table has its length.
 pub fn permit(n: u64, e: Edit, cost: &[u32]) -> Refusal
     requires { ⌜ (n ≤ 64) × (length (now cost) ≡ n * n) ⌝ }
-    ensures { λ r. ⌜ r ≡ editTests n e (now (cost .entry)) Accepted ⌝ }
+    ensures { λ r. ⌜ r ≡ editRefusal n e (now (cost .entry)) ⌝ }
 {
     let u = e.u;
     let v = e.v;

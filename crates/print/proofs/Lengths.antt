@@ -18,7 +18,7 @@ use Rattle.book.proofs.Passed.{permitted}
 use Rattle.book.proofs.Steps.{Held, accepted-book}
 use Rattle.book.specs.declared.Edit.{Edit}
 use Rattle.book.specs.declared.Refusal.{Refusal}
-use Rattle.book.specs.declared.Refusal.the-variants.{Accepted, BadSize, BadLength, BadTables, BadStop, BadCost, LinkPresent, LinkAbsent, CostWrongSide, BadImage, ShortBuffer, TooManyWays, ListTooLong, BadPassing}
+use Rattle.book.specs.declared.Refusal.the-variants.{Accepted, BadSize, BadLength, BadTables, BadStop, BadCost, LinkPresent, LinkAbsent, CostWrongSide, BadImage, ShortBuffer, TooManyWays, ListTooLong, BadPassing, CrowdedPair}
 use Rattle.words.specs.declared.Line.{Line}
 use Rattle.words.specs.declared.Line.the-variants.{Read, Unread}
 use Rattle.words.specs.Text.{longest, bytes, parts, words, lineOf, decimal, hallLine, editLine, unreadLine, stopLine, said}
@@ -41,6 +41,7 @@ number-short ShortBuffer = lit< tt
 number-short TooManyWays = lit< tt
 number-short ListTooLong = lit< tt
 number-short BadPassing = lit< tt
+number-short CrowdedPair = lit< tt
 
 ones : (n : ℕ) (p : ℕ → Bool) → sumTo n (λ s. cond (p s) 1 0) ≤ n
 ones n p = omega (arith, sumTo-bound n 1 {f = λ s. cond (p s) 1 0} (λ s l. one (p s)))

@@ -6,7 +6,7 @@ use lib.ListN.{length}
 use lib.Seq.{sets}
 
 -- the most bytes of a printed line, its line feed among them: `hall 64 scale 27720`; `32769 unread`; an edit's `32769 0 63 65535`,
--- longer than a refused one's `32769 11 0 0`; `stop 63 score ` and 20 digits
+-- longer than a refused one's `32769 8 0 0`; `stop 63 score ` and 20 digits
 abbrev pub hallBytes : ℕ
 hallBytes = 20
 

@@ -1,24 +1,25 @@
 // The route list: the quickest routes from one stop to another, in a lent buffer.
 use book::Refusal;
 use book::WriteAnswer;
+use book::limits::Hall;
 use book::number_of::passes;
 use cells::places::read_entry;
 use hall::audit::audit;
 use route_walk::on_from;
 use route_walk::put_routes;
 ghost use mathlib.Core.Path.{_≡_};
-ghost use Prim.Native.Nat.{_^_, _<_, _≤_};
+ghost use Prim.Native.Nat.{_+_, _^_, _<_, _≤_};
 ghost use lib.ListN.{length};
 ghost use lib.Seq.{sets};
 ghost use Rattle.book.specs.Hall.{mostWays, routeList};
 ghost use Rattle.book.specs.Call.{listRoutes, Done};
 ghost use Rattle.book.specs.Contract.{thisLayout, foundLayout, found, ofWrite, stored};
-ghost use Rattle.route_lists.specs.Promise.{visitingBy, Counted, Listable, stopsInAll};
+ghost use Rattle.route_lists.specs.Promise.{visitingBy, Counted, Listable, Admits, stopsInAll};
 
 // How many of the routes visit a stop: near and coming are the time and the ways to it, far and going those on from it, far with what it
 // takes to pass it, and all is the time of the whole.
 fn visiting(near: u32, far: u64, all: u32, coming: u32, going: u32) -> usize
-    requires { ⌜ (far < 2 ^ 33) × (coming ≤ mostWays) × (going ≤ mostWays) ⌝ }
+    requires { ⌜ (far < 2 ^ 33) × (coming ≤ mostWays + 1) × (going ≤ mostWays + 1) ⌝ }
     ensures { λ r. ⌜ r ≡ visitingBy near far all coming going ⌝ }
 {
     if near as u64 + far != all as u64 {
@@ -91,8 +92,38 @@ fn store(
     }
 }
 
-// Writes the quickest routes from s to t to the buffer and gives the length written. It is refused as an audit is, for a stop of n or
-// more, while a stop to itself is allowed, and for a buffer that is too short.
+// The tests before the buffer's: those of an audit, 4 for a stop of n or more, while a stop to itself is allowed, and 14 for a crowded pair.
+fn admit(
+    n: u64,
+    s: u64,
+    t: u64,
+    cost: &[u32],
+    passing: &[u32],
+    time: &[u32],
+    ways: &[u32],
+    share: &[u64],
+    score: &[u64],
+) -> Refusal
+    ensures { λ r. ⌜ Admits n s t (found cost passing time ways share score) r ⌝ }
+{
+    let verdict = audit(n, cost, passing, time, ways, share, score);
+    if !passes(verdict) {
+        return verdict;
+    }
+    if n <= s {
+        return Refusal::BadStop;
+    }
+    if n <= t {
+        return Refusal::BadStop;
+    }
+    let routes = read_entry(n as usize, s as usize, t as usize, ways);
+    if Hall::WAYS < routes {
+        return Refusal::CrowdedPair;
+    }
+    Refusal::Accepted
+}
+
+// Writes the quickest routes from s to t to the buffer and gives the length written.
 pub fn list_routes(
     n: u64,
     s: u64,
@@ -107,22 +138,10 @@ pub fn list_routes(
 ) -> WriteAnswer
     ensures { λ r. ⌜ Done (record { n = n; ask = listRoutes s t (now (buffer .entry)) }) (found cost passing time ways share score) (found cost passing time ways share score) (ofWrite r (now (buffer .exit))) ⌝ }
 {
-    let verdict = audit(n, cost, passing, time, ways, share, score);
+    let verdict = admit(n, s, t, cost, passing, time, ways, share, score);
     if !passes(verdict) {
         return WriteAnswer {
             refusal: verdict,
-            length: 0,
-        };
-    }
-    if n <= s {
-        return WriteAnswer {
-            refusal: Refusal::BadStop,
-            length: 0,
-        };
-    }
-    if n <= t {
-        return WriteAnswer {
-            refusal: Refusal::BadStop,
             length: 0,
         };
     }

@@ -8,8 +8,8 @@ use native.Mathlib.Decide.{ℕ-discrete}
 use native.Mathlib.Omega.{arith}
 use lib.Dec.{eqb, ltb}
 use borrow.Author.Tests.{eq-eqb, ne-eqb}
-use Rattle.routes.specs.Route.{Costs, mark, sumTo, leastTime, ways, through, portion, share, score}
-use Rattle.routes.specs.Equations.{tight, quotient, cappedWays, openShare}
+use Rattle.routes.specs.Route.{Costs, mark, sumTo, leastTime, ways, through, portion, share, score, cappedWays, openShare}
+use Rattle.routes.specs.Equations.{tight, quotient}
 use Rattle.routes.proofs.Sums.{sumTo-le, sumTo-bound, sumTo-bound-but, sumTo-add, sumTo-pick, sumTo-mul-left, cond-true, cond-false, flow-zero}
 use Rattle.routes.proofs.Tight.{tight-true}
 use Rattle.routes.proofs.Flows.{Flows}
@@ -154,12 +154,12 @@ open-le W n s limit scale v = go (eqb v s)
     go false = sumTo-le n (λ t l. closed (ltb limit (ways W n s t)) (portion W n s scale v t))
 
 -- a score is at most (n - 1) (n - 2) times the scale, whatever the costs on routes from each source
-pub score-le : (C : ℕ → Costs) (n scale v : ℕ) → v < n → ((s : ℕ) → s < n → Flows (C s) n s) →
-    score C n scale v ≤ (n - 1) * ((n - 2) * scale)
+pub score-le : (C : ℕ → Costs) (n limit scale v : ℕ) → v < n → ((s : ℕ) → s < n → Flows (C s) n s) →
+    score C n limit scale v ≤ (n - 1) * ((n - 2) * scale)
 unfolding score
-score-le C n scale v l F =
+score-le C n limit scale v l F =
     but
-    (sumTo n (λ s. share (C s) n s scale v))
+    (sumTo n (λ s. openShare (C s) n s limit scale v))
     n
     1
     ((n - 2) * scale)
@@ -169,19 +169,19 @@ score-le C n scale v l F =
           n
           ((n - 2) * scale)
           v
-          (λ s. share (C s) n s scale v)
+          (λ s. openShare (C s) n s limit scale v)
           l
-          (share-own (C v) n scale v)
-          (λ s k. share-le (C s) n s (F s k) scale v k l),
+          (omega (arith, open-le (C v) n v limit scale v, share-own (C v) n scale v))
+          (λ s k. omega (arith, open-le (C s) n s limit scale v, share-le (C s) n s (F s k) scale v k l)),
     ))
 
 -- in a hall of at most 64 stops a score is at most 63 × 62 times the scale
-module _ (C : ℕ → Costs) (n scale v : ℕ) (small : n ≤ 64) (inside : v < n) where
-  pub score-limit : ((s : ℕ) → s < n → Flows (C s) n s) → score C n scale v ≤ 3906 * scale
+module _ (C : ℕ → Costs) (n limit scale v : ℕ) (small : n ≤ 64) (inside : v < n) where
+  pub score-limit : ((s : ℕ) → s < n → Flows (C s) n s) → score C n limit scale v ≤ 3906 * scale
   score-limit F =
       omega (
         arith,
-        score-le C n scale v inside F,
+        score-le C n limit scale v inside F,
         mul-le-mul-right {m = n - 2} {n = 62} scale (omega arith),
         mul-le-mul-right {m = n - 1} {n = 63} ((n - 2) * scale) (omega arith),
       )

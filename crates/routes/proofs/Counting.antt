@@ -71,7 +71,7 @@ count-cong (a ∷ l) h =
     ap₂ (λ b k. cond b 1 0 + k) (h a (here a l)) (count-cong l (λ r m. h r (there r a l m)))
 
 -- a property that each member with p has counts no fewer, and where it counts as many, the members with it are those with p
-count-le : (l : List (List ℕ)) {p q : List ℕ → Bool} → ((r : List ℕ) → 0 < count (same r) l → p r ≡ true → q r ≡ true) → count p l ≤ count q l
+pub count-le : (l : List (List ℕ)) {p q : List ℕ → Bool} → ((r : List ℕ) → 0 < count (same r) l → p r ≡ true → q r ≡ true) → count p l ≤ count q l
 unfolding count
 count-le [] h = omega arith
 count-le (a ∷ l) {p} {q} h = go (p a) refl (count-le l (λ r m. h r (there r a l m)))

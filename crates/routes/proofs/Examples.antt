@@ -4,7 +4,7 @@ use mathlib.Core.Path.{_≡_, refl}
 use mathlib.Core.Bool.{true, false}
 use mathlib.Core.List.{List, [], _∷_}
 use lib.ListN.{getD}
-use Rattle.routes.specs.Route.{Costs, mark, sumTo, joinTo, listTo, count, visits, time, passed, costsFrom, least, extend, hops, routes, leastTime, quickest, ways, through, portion, share, score}
+use Rattle.routes.specs.Route.{Costs, mark, sumTo, joinTo, listTo, count, visits, time, passed, costsFrom, least, extend, hops, routes, leastTime, quickest, ways, through, portion, share, openShare, score}
 use Rattle.routes.specs.Equations.{tight}
 use Rattle.routes.specs.Walk.{leads, walk}
 
@@ -47,8 +47,8 @@ diamond-shares : table 4 (λ s. share diamond 4 s L) ≡
 unfolding sumTo joinTo listTo count time least extend visits hops routes leastTime quickest ways through portion share
 diamond-shares = refl
 
-diamond-scores : listTo 4 (score (λ s. diamond) 4 L) ≡ 0 ∷ L / 2 ∷ L / 2 ∷ 0 ∷ []
-unfolding sumTo joinTo listTo count time least extend visits hops routes leastTime quickest ways through portion share score
+diamond-scores : listTo 4 (score (λ s. diamond) 4 12 L) ≡ 0 ∷ L / 2 ∷ L / 2 ∷ 0 ∷ []
+unfolding sumTo joinTo listTo count time least extend visits hops routes leastTime quickest ways through portion openShare score
 diamond-scores = refl
 
 -- From 0 to 1 the link 0 to 2 is tight, but leads to no quickest route: the walk does not take it.
@@ -96,8 +96,8 @@ ties-shares : table 5 (λ s. share ties 5 s L) ≡
 unfolding sumTo joinTo listTo count time least extend visits hops routes leastTime quickest ways through portion share
 ties-shares = refl
 
-ties-scores : listTo 5 (score (λ s. ties) 5 L) ≡ 0 ∷ 7 * L / 3 ∷ 11 * L / 6 ∷ 3 * L ∷ 0 ∷ []
-unfolding sumTo joinTo listTo count time least extend visits hops routes leastTime quickest ways through portion share score
+ties-scores : listTo 5 (score (λ s. ties) 5 12 L) ≡ 0 ∷ 7 * L / 3 ∷ 11 * L / 6 ∷ 3 * L ∷ 0 ∷ []
+unfolding sumTo joinTo listTo count time least extend visits hops routes leastTime quickest ways through portion openShare score
 ties-scores = refl
 
 -- Four stops with passing times. From 0 to 3 the links over 1 take 4 and those over 2 take 6, but passing 1 takes 7 and passing 2 takes 1.

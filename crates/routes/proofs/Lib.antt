@@ -14,6 +14,7 @@ pub mod Unique
 pub mod Flows
 pub mod Paths
 pub mod Shared
+pub mod Between
 pub mod Bounds
 pub mod Totals
 pub mod Transfer
@@ -27,7 +28,6 @@ pub mod Onward
 pub mod Bits
 pub mod Rows
 pub mod Stored
-pub mod Copies
 pub mod Tests
 pub mod Scales
 pub mod Passing

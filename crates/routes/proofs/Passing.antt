@@ -10,10 +10,10 @@ use mathlib.Core.List.{List, [], _∷_, map, reverse}
 use lib.Dec.{eqb, ltb}
 use lib.ListN.{length}
 use borrow.Author.Tests.{eqb-true, eq-eqb, lt-ltb, ltb-true, ltb-false}
-use Rattle.routes.specs.Route.{Costs, mark, link, time, passed, costsFrom, least, joinTo, count, chosen, same, inOrder, extend, visits, hops, routes, leastTime, quickest, ways, through, portion, share, quickestRoutes, routeTime, used, uses, sumTo}
+use Rattle.routes.specs.Route.{Costs, mark, link, time, passed, costsFrom, least, joinTo, count, chosen, same, inOrder, extend, visits, hops, routes, leastTime, quickest, ways, through, portion, openShare, quickestRoutes, routeTime, used, uses, sumTo}
 use Rattle.routes.specs.Equations.{Within}
 use Rattle.routes.proofs.Sums.{cond-true, cond-false, sumTo-cong}
-use Rattle.routes.proofs.Counting.{here, there, count-cong, count-agree}
+use Rattle.routes.proofs.Counting.{here, there, count-cong, count-le, count-agree}
 use Rattle.routes.proofs.Listing.{Route, start, step, route-length, found, time-bound}
 use Rattle.routes.proofs.Times.{source-apart, least-of, route-at}
 use Rattle.routes.proofs.Cheaper.{Cheaper}
@@ -160,28 +160,32 @@ module _ (W : Costs) (p : ℕ → ℕ) (s : ℕ) where
         (ap (chosen (λ r. eqb (time (costsFrom W p s) r) (leastTime (costsFrom W p s) n s t))) (routes-from t)
         ∙ chosen-cong (routes W n s t) (λ r m. ap (λ x. eqb x (leastTime (costsFrom W p s) n s t)) (listed-from t l r m)))
 
-    -- no route takes less than without passing times. So where the least time is as without, and there are as many quickest routes, they
-    -- are the same routes, whatever property they have
+    -- no route takes less than without passing times. So where the least time is as without, each quickest route is one without them
+    still : (t : ℕ) → t < n → leastTime (costsFrom W p s) n s t ≡ leastTime W n s t → (r : List ℕ) → 0 < count (same r) (routes W n s t) →
+        eqb (routeTime W p r) (leastTime (costsFrom W p s) n s t) ≡ true → eqb (time W r) (leastTime W n s t) ≡ true
+    still t l e r m h =
+        let (q, z, R) = found W n s t l r m in
+        let low : leastTime W n s t ≤ time W r = rw z (least-of W n s R) in
+        eq-eqb (time W r) (leastTime W n s t) (omega (arith, e, eqb-true (routeTime W p r) (leastTime (costsFrom W p s) n s t) h))
+
+    pub fewer-ways : (t : ℕ) → t < n → leastTime (costsFrom W p s) n s t ≡ leastTime W n s t → ways (costsFrom W p s) n s t ≤ ways W n s t
+    fewer-ways t l e = omega (arith, ways-from t l, ways-count W n s t, count-le (routes W n s t) (still t l e))
+
+    -- and where there are as many quickest routes, they are the same routes, whatever property they have
     pub same-quickest : (t : ℕ) → t < n → leastTime (costsFrom W p s) n s t ≡ leastTime W n s t → ways (costsFrom W p s) n s t ≡ ways W n s t →
         (P : List ℕ → Bool) → quickest (costsFrom W p s) n s P t ≡ quickest W n s P t
     unfolding quickest
     same-quickest t l e f P =
         quickest-from P t l
-        ∙ count-cong (routes W n s t) (λ r m. ap (λ b. b && P r) (count-agree (routes W n s t) still (sym (ways-from t l) ∙ f ∙ ways-count W n s t) r m))
-      where
-        still : (r : List ℕ) → 0 < count (same r) (routes W n s t) → eqb (routeTime W p r) (leastTime (costsFrom W p s) n s t) ≡ true → eqb (time W r) (leastTime W n s t) ≡ true
-        still r m h =
-            let (q, z, R) = found W n s t l r m in
-            let low : leastTime W n s t ≤ time W r = rw z (least-of W n s R) in
-            eq-eqb (time W r) (leastTime W n s t) (omega (arith, eqb-true (routeTime W p r) (leastTime (costsFrom W p s) n s t) h))
+        ∙ count-cong (routes W n s t) (λ r m. ap (λ b. b && P r) (count-agree (routes W n s t) (still t l e) (sym (ways-from t l) ∙ f ∙ ways-count W n s t) r m))
 
     -- where this is so for every stop t, the shares are as without passing times
     pub same-share : ((t : ℕ) → t < n → leastTime (costsFrom W p s) n s t ≡ leastTime W n s t) → ((t : ℕ) → t < n → ways (costsFrom W p s) n s t ≡ ways W n s t) →
-        (scale v : ℕ) → share (costsFrom W p s) n s scale v ≡ share W n s scale v
-    unfolding share portion through
-    same-share e f scale v =
+        (limit scale v : ℕ) → openShare (costsFrom W p s) n s limit scale v ≡ openShare W n s limit scale v
+    unfolding openShare portion through
+    same-share e f limit scale v =
         ap (cond (eqb v s) 0) (sumTo-cong n (λ t l.
-        ap₂ (λ x y. cond (eqb t s || eqb t v) 0 (scale * x / y)) (same-quickest t l (e t l) (f t l) (visits v)) (f t l)))
+        ap₂ (λ x y. cond (ltb limit y) 0 (cond (eqb t s || eqb t v) 0 (scale * x / y))) (same-quickest t l (e t l) (f t l) (visits v)) (f t l)))
 
   -- where no stop takes time, the costs are those of W
   pub none-from : ((v : ℕ) → p v ≡ 0) → costsFrom W p s ≡ W

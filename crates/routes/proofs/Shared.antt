@@ -9,8 +9,8 @@ use native.Mathlib.Decide.{ℕ-discrete, decLe}
 use native.Mathlib.Omega.{arith}
 use lib.Dec.{eqb, ltb}
 use borrow.Author.Tests.{eq-eqb, ne-eqb, lt-ltb, le-ltb, ltb-true, ltb-false}
-use Rattle.routes.specs.Route.{Costs, mark, sumTo, leastTime, ways, through, portion, share}
-use Rattle.routes.specs.Equations.{Shares, Within, tight, inflow, outflow, quotient, cappedWays, openShare}
+use Rattle.routes.specs.Route.{Costs, mark, sumTo, leastTime, ways, through, portion, share, cappedWays, openShare}
+use Rattle.routes.specs.Equations.{Shares, Within, tight, inflow, outflow, quotient}
 use Rattle.routes.proofs.Sums.{sumTo-cong, sumTo-zero, sumTo-add, sumTo-pick, sumTo-mul-left, cond-true, cond-false, flow-le, flow-mul, flow-sum}
 use Rattle.routes.proofs.Tight.{tight-true, up-ind, inflow-zero, inflow-unique}
 use Rattle.routes.proofs.Times.{times}

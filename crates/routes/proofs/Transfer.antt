@@ -6,8 +6,8 @@ use mathlib.Core.Bool.{true, false, cond, not, _&&_, _||_}
 use native.Mathlib.Decide.{ℕ-discrete}
 use native.Mathlib.Omega.{arith}
 use lib.Dec.{eqb, ltb}
-use Rattle.routes.specs.Route.{Costs, mark, link, leastTime, ways, through, portion, share}
-use Rattle.routes.specs.Equations.{Times, tight, openShare}
+use Rattle.routes.specs.Route.{Costs, mark, link, leastTime, ways, through, portion, share, openShare}
+use Rattle.routes.specs.Equations.{Times, tight}
 use Rattle.routes.proofs.Sums.{is-false, sumTo-cong}
 use Rattle.routes.proofs.Tight.{Tight, tight-true, SameTight, same-tight, inflow-unique}
 use Rattle.routes.proofs.Unique.{times-unique}

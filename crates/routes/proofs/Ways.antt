@@ -8,8 +8,8 @@ use mathlib.Core.List.{List, _∷_}
 use native.Mathlib.Decide.{ℕ-discrete}
 use lib.Dec.{eqb}
 use borrow.Author.Tests.{eqb-true, eq-eqb, ne-eqb, not-true}
-use Rattle.routes.specs.Route.{Costs, mark, link, time, sumTo, count, same, visits, hops, routes, leastTime, quickest, ways, through}
-use Rattle.routes.specs.Equations.{Within, cappedWays, tight, inflow, Counts}
+use Rattle.routes.specs.Route.{Costs, mark, link, time, sumTo, count, same, visits, hops, routes, leastTime, quickest, ways, through, cappedWays}
+use Rattle.routes.specs.Equations.{Within, tight, inflow, Counts}
 use Rattle.routes.proofs.Booleans.{bool-iff}
 use Rattle.routes.proofs.Sums.{sumTo-cong, flow-sum}
 use Rattle.routes.proofs.Tight.{Tight, tight-true, inflow-zero}

@@ -5,16 +5,7 @@ use mathlib.Core.Path.{_≡_}
 use mathlib.Core.Logic.{_≢_}
 use mathlib.Core.Bool.{Bool, true, cond, not, _&&_}
 use lib.Dec.{eqb, ltb}
-use Rattle.routes.specs.Route.{Costs, mark, link, sumTo, ways, portion}
-
--- ways counted up to one more than the limit
-abbrev pub cappedWays : Costs → ℕ → ℕ → ℕ → ℕ → ℕ
-cappedWays W n s limit t = min (suc limit) (ways W n s t)
-
--- the share of v where a crowded pair, one with more ways than the limit, adds nothing
-unfoldable pub openShare : Costs → ℕ → ℕ → ℕ → ℕ → ℕ → ℕ
-openShare W n s limit scale v =
-    cond (eqb v s) 0 (sumTo n (λ t. cond (ltb limit (ways W n s t)) 0 (portion W n s scale v t)))
+use Rattle.routes.specs.Route.{Costs, mark, link, sumTo}
 
 -- no link costs more than c
 abbrev pub Within : Costs → ℕ → ℕ → Type 0

@@ -1,4 +1,4 @@
--- The routes of a hall, by listing every one of them, and what document 01 counts over them.
+-- The routes of a hall, by listing every one of them, and what document 01, with document 02, §8, counts over them.
 -- A stop (vertex) is a number below n. W u v is the cost (weight) of the link (directed edge) u to v, 0 where there is none; p v is the
 -- passing time of the stop v (vertex weight).
 -- A route (simple path) is the list of its stops, the last one first. Assumes nothing.
@@ -158,14 +158,27 @@ module _ (W : Costs) (n s : ℕ) where
   unfoldable pub portion : ℕ → ℕ → ℕ → ℕ
   portion scale v t = cond (eqb t s || eqb t v) 0 (scale * through v t / ways t)
 
-  -- the share of v in the routes from s (dependency δ × scale)
+  -- the share of v in the routes from s, by document 01 (dependency δ × scale)
   unfoldable pub share : ℕ → ℕ → ℕ
   share scale v = cond (eqb v s) 0 (sumTo n (portion scale v))
+
+  -- the pair s, t is crowded: it has more ways than the limit
+  abbrev pub crowded : (limit t : ℕ) → Bool
+  crowded limit t = ltb limit (ways t)
+
+  -- the ways of the pair as a table has them: counted up to limit + 1, which is the entry of a crowded pair
+  abbrev pub cappedWays : (limit t : ℕ) → ℕ
+  cappedWays limit t = min (suc limit) (ways t)
+
+  -- the share of v as a table has it: a crowded pair adds nothing
+  unfoldable pub openShare : (limit scale v : ℕ) → ℕ
+  openShare limit scale v = cond (eqb v s) 0 (sumTo n (λ t. cond (crowded limit t) 0 (portion scale v t)))
 
   -- some quickest route from s uses the link u to v
   unfoldable pub used : ℕ → ℕ → Bool
   used u v = ltb 0 (sumTo n (quickest (uses u v)))
 
--- the score of v: the sum of its shares over all sources, C s being the costs on routes from s (betweenness × scale, ordered pairs)
-unfoldable pub score : (ℕ → Costs) → ℕ → ℕ → ℕ → ℕ
-score C n scale v = sumTo n (λ s. share (C s) n s scale v)
+-- the score of v: the sum over all sources of its shares as a table has them, C s being the costs on routes from s (betweenness × scale,
+-- ordered pairs)
+unfoldable pub score : (ℕ → Costs) → (n limit scale v : ℕ) → ℕ
+score C n limit scale v = sumTo n (λ s. openShare (C s) n s limit scale v)

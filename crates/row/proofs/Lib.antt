@@ -8,5 +8,4 @@ pub mod Adding
 pub mod Pushing
 pub mod Owing
 pub mod Paying
-pub mod Over
 pub mod Whole

@@ -8,8 +8,8 @@ use native.Mathlib.Nat.{add-zero, mul-le-mul-left, mul-le-mul-right}
 use native.Mathlib.Omega.{arith}
 use lib.ListN.{length, getD, set}
 use lib.Seq.{getD-set-same, getD-set-other}
-use Rattle.routes.specs.Route.{Costs, mark, has, leastTime}
-use Rattle.routes.specs.Equations.{tight, outflow, quotient, cappedWays}
+use Rattle.routes.specs.Route.{Costs, mark, has, leastTime, cappedWays}
+use Rattle.routes.specs.Equations.{tight, outflow, quotient}
 use Rattle.routes.proofs.Shared.{flowBack}
 use Rattle.row.proofs.Order.{seen-at}
 use Rattle.row.proofs.Pushing.{Pushing, flow-fits, flow-whole, pushes-next, pushing-ends, pushing-starts}

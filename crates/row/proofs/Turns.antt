@@ -13,8 +13,8 @@ use lib.ListN.{length, getD, set, length-set}
 use lib.Pow.{pow-lt}
 use lib.Seq.{getD-set-same, getD-set-other}
 use borrow.Author.Tests.{eqb-true}
-use Rattle.routes.specs.Route.{Costs, mark, link, sumTo, has, leastTime}
-use Rattle.routes.specs.Equations.{Within, Times, Counts, cappedWays}
+use Rattle.routes.specs.Route.{Costs, mark, link, sumTo, has, leastTime, cappedWays}
+use Rattle.routes.specs.Equations.{Within, Times, Counts}
 use Rattle.routes.proofs.Booleans.{both}
 use Rattle.routes.proofs.Times.{times, least-bound}
 use Rattle.routes.proofs.Ways.{counts}

@@ -1,17 +1,15 @@
 -- The whole row: how the parts of the fill come together. Assumes nothing.
 use Prim.Native.Nat.{ℕ, _<_}
 use mathlib.Core.Path.{_≡_, sym, ap, _∙_}
-use mathlib.Core.Bool.{Bool, not}
 use mathlib.Core.List.{List}
 use native.Mathlib.Omega.{arith}
-use lib.Dec.{eqb, ltb, leb}
+use lib.Dec.{eqb, ltb}
 use lib.ListN.{length, getD, set, length-set, replicate, length-replicate, getD-replicate, List·getD-eq-default}
 use lib.Seq.{getD-set-same, getD-set-other}
 use borrow.Author.Tests.{eqb-true, eqb-false, ltb-true, ltb-false}
-use Rattle.routes.specs.Route.{Costs, mark, allTo, leastTime, ways as waysOf}
+use Rattle.routes.specs.Route.{Costs, mark, leastTime, cappedWays, openShare}
 use Rattle.routes.specs.Stored.{Stored}
-use Rattle.routes.specs.Equations.{Shares, cappedWays, openShare}
-use Rattle.routes.proofs.Sums.{all-cong}
+use Rattle.routes.specs.Equations.{Shares}
 use Rattle.routes.proofs.Flows.{Flows, flows}
 use Rattle.routes.proofs.Shared.{flowBack, flowing, shares}
 use Rattle.routes.proofs.Bounds.{back-le, capped-back-le}
@@ -19,10 +17,9 @@ use Rattle.routes.proofs.Bits.{split}
 use Rattle.routes.proofs.Rows.{listTo-of}
 use Rattle.links.specs.Promise.{Task, dearest, maskedFrom}
 use Rattle.links.proofs.Masked.{masked-small, masked-within}
-use Rattle.row.proofs.Over.{capped-within}
 use Rattle.row.proofs.Turns.{ground, near}
 use Rattle.row.specs.Paid.{Owing, Paid, Waits}
-use Rattle.row.specs.Promise.{Filled, within}
+use Rattle.row.specs.Promise.{RightRow}
 use Rattle.row.specs.Settled.{Begun, Ground, Settled}
 
 -- the lists that the settle loop starts from
@@ -102,21 +99,15 @@ module _ (n s scale limit top k : ℕ) (cost passing out time ways pred order : 
       }
 
   -- the row is whole
-  pub filled : (share : List ℕ) (r : Bool) → length time ≡ n → length ways ≡ n → length share ≡ n → (length pred ≡ 64) → (length order ≡ 64)
-      → Paid k scale limit ways pred order share → r ≡ not (allTo (length ways) (within limit ways)) → Filled W n s limit scale time ways (set share s 0) r
-  filled share r lt lw ls lp lo paid e =
+  pub filled : (share : List ℕ) → length time ≡ n → length ways ≡ n → length share ≡ n → (length pred ≡ 64) → (length order ≡ 64)
+      → Paid k scale limit ways pred order share → RightRow W n s limit scale time ways (set share s 0)
+  filled share lt lw ls lp lo paid =
       record {
-        row = record {
-          times = listTo-of n D 0 time lt (settled .times);
-          counts = listTo-of n σ 0 ways lw (settled .counts);
-          shares = listTo-of n (openShare W n s limit scale) 0 (set share s 0) (length-set share s 0 ∙ ls) shared;
-        };
-        over = e ∙ ap not few;
+        times = listTo-of n D 0 time lt (settled .times);
+        counts = listTo-of n σ 0 ways lw (settled .counts);
+        shares = listTo-of n (openShare W n s limit scale) 0 (set share s 0) (length-set share s 0 ∙ ls) shared;
       }
     where
-      few : allTo (length ways) (within limit ways) ≡ allTo n (λ t. leb (waysOf W n s t) limit)
-      few = rw lw (all-cong n λ t l. rw (settled .counts t l) (capped-within limit (waysOf W n s t)))
-
       E3 : Shares W n s limit scale D σ ψ (openShare W n s limit scale)
       E3 = shares W n s F limit scale (task .whole)
 

@@ -5,8 +5,8 @@ use mathlib.Core.Logic.{_≢_}
 use mathlib.Core.Bool.{true, cond}
 use mathlib.Core.List.{List}
 use lib.ListN.{length, getD}
-use Rattle.routes.specs.Route.{Costs, mark, has, leastTime}
-use Rattle.routes.specs.Equations.{tight, outflow, quotient, cappedWays}
+use Rattle.routes.specs.Route.{Costs, mark, has, leastTime, cappedWays}
+use Rattle.routes.specs.Equations.{tight, outflow, quotient}
 use Rattle.routes.proofs.Shared.{flowBack}
 use Rattle.row.specs.Settled.{Order, seen}
 

@@ -6,8 +6,8 @@ use mathlib.Core.Logic.{_≢_}
 use mathlib.Core.List.{List}
 use lib.Dec.{eqb}
 use lib.ListN.{length, getD}
-use Rattle.routes.specs.Route.{Costs, mark, has, leastTime}
-use Rattle.routes.specs.Equations.{tight, cappedWays}
+use Rattle.routes.specs.Route.{Costs, mark, has, leastTime, cappedWays}
+use Rattle.routes.specs.Equations.{tight}
 
 -- t is one of the first k stops
 unfoldable pub seen : (ℕ → ℕ) → ℕ → ℕ → Bool

@@ -5,14 +5,12 @@ mod push;
 mod settle;
 
 ghost use mathlib.Core.Path.{_≡_};
-ghost use mathlib.Core.Bool.{not};
 ghost use lib.ListN.{length};
-ghost use Rattle.routes.specs.Route.{allTo};
 ghost use Rattle.routes.specs.Stored.{Stored};
 ghost use Rattle.links.specs.Promise.{maskedFrom, Task};
-ghost use Rattle.row.specs.Promise.{Filled, within};
+ghost use Rattle.row.specs.Promise.{RightRow};
 
-// Writes the row of the source s. Answers whether some stop has more ways than the limit.
+// Writes the row of the source s. A stop with more ways than the limit has limit + 1, and adds nothing to shares.
 pub fn fill(
     n: usize,
     s: usize,
@@ -25,12 +23,12 @@ pub fn fill(
     time: &mut [u32],
     ways: &mut [u32],
     share: &mut [u64],
-) -> bool
+)
     requires { ⌜ Task n s (now cost) (now passing) (now out) scale limit mark ⌝ }
     requires { ⌜ length (now time) ≡ n ⌝ }
     requires { ⌜ length (now ways) ≡ n ⌝ }
     requires { ⌜ length (now share) ≡ n ⌝ }
-    ensures { λ r. ⌜ Filled (maskedFrom n s (now (cost .entry)) (now (passing .entry)) (now (out .entry))) n s limit scale (now (time .exit)) (now (ways .exit)) (now (share .exit)) r ⌝ }
+    ensures { λ _. ⌜ RightRow (maskedFrom n s (now (cost .entry)) (now (passing .entry)) (now (out .entry))) n s limit scale (now (time .exit)) (now (ways .exit)) (now (share .exit)) ⌝ }
 {
     let mut pred = [0u64; 64];
     let mut order = [0usize; 64];
@@ -53,7 +51,6 @@ pub fn fill(
     );
     push::accumulate(k, scale, limit, ways, &pred, &order, share);
     share[s] = 0;
-    crowded(limit, ways)
 }
 
 // Writes x everywhere.
@@ -72,15 +69,4 @@ fn clear(list: &mut [u64])
     for t in 0..list.len() {
         list[t] = 0;
     }
-}
-
-// Some stop has more ways than the limit.
-fn crowded(limit: u32, ways: &[u32]) -> bool
-    ensures { λ r. ⌜ r ≡ not (allTo (length (now (ways .entry))) (within limit (now (ways .entry)))) ⌝ }
-{
-    let mut over = false;
-    for t in 0..ways.len() {
-        over |= limit < ways[t];
-    }
-    over
 }

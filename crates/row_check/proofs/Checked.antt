@@ -8,8 +8,8 @@ use native.Mathlib.Decide.{decLe, ℕ-discrete}
 use native.Mathlib.Omega.{arith}
 use lib.Dec.{eqb}
 use borrow.Author.Tests.{eqb-true, eqb-false, eq-eqb, ne-eqb, lt-ltb}
-use Rattle.routes.specs.Route.{Costs, mark, link, leastTime, ways}
-use Rattle.routes.specs.Equations.{Within, Shares, tight, inflow, outflow, quotient, cappedWays, openShare}
+use Rattle.routes.specs.Route.{Costs, mark, link, leastTime, ways, cappedWays, openShare}
+use Rattle.routes.specs.Equations.{Within, Shares, tight, inflow, outflow, quotient}
 use Rattle.routes.proofs.Booleans.{bool-iff}
 use Rattle.routes.proofs.Sums.{cond-true, cond-false, member-le, sumTo-positive, flow-zero}
 use Rattle.routes.proofs.Tight.{tight-true, outflow-cong}

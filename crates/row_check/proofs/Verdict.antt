@@ -9,8 +9,8 @@ use native.Mathlib.Omega.{arith}
 use lib.Dec.{eqb}
 use lib.ListN.{length, replicate, getD-replicate, length-replicate}
 use borrow.Author.Tests.{eqb-true, eqb-false, eq-eqb, leb-true, le-leb, lt-ltb, ltb-true, not-true}
-use Rattle.routes.specs.Route.{mark, Costs, sumTo, allTo, same, listTo, leastTime}
-use Rattle.routes.specs.Equations.{outflow, Within, Counts, cappedWays, openShare}
+use Rattle.routes.specs.Route.{mark, Costs, sumTo, allTo, same, listTo, leastTime, cappedWays, openShare}
+use Rattle.routes.specs.Equations.{outflow, Within, Counts}
 use Rattle.routes.proofs.Booleans.{both, bool-iff}
 use Rattle.routes.proofs.Sums.{all-true, all-of, cond-true, is-false, member-le}
 use Rattle.routes.proofs.Lists.{same-refl, same-true}

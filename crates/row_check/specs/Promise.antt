@@ -2,8 +2,7 @@
 use Prim.Native.Nat.{ℕ}
 use mathlib.Core.Bool.{Bool, _&&_}
 use mathlib.Core.List.{List}
-use Rattle.routes.specs.Route.{Costs, listTo, same, leastTime}
-use Rattle.routes.specs.Equations.{cappedWays, openShare}
+use Rattle.routes.specs.Route.{Costs, listTo, same, leastTime, cappedWays, openShare}
 
 -- the parts of times, ways and shares are those of source s over the costs W
 unfoldable pub isRow : Costs → ℕ → ℕ → ℕ → ℕ → List ℕ → List ℕ → List ℕ → Bool

@@ -102,7 +102,7 @@ fn scores_pass(n: usize, share: &[u64], score: &[u64]) -> bool
     !bad
 }
 
-// The tables belong to their hall: valid costs without a crowded pair, and what a work out fills for them.
+// The tables belong to their hall: valid costs, and what a work out fills for them.
 pub fn right(
     limit: u32,
     scale: u64,
@@ -128,9 +128,6 @@ pub fn right(
     let mut out = [0u64; 64];
     useful_links(n, cost, time, &mut out);
     if !rows_pass(limit, scale, n, cost, passing, &out, time, ways, share) {
-        return false;
-    }
-    if !costs::within(limit, ways) {
         return false;
     }
     scores_pass(n, share, score)

@@ -45,7 +45,7 @@ fn link(seed: &mut u64, u: u64, v: u64, density: u64, even: bool) -> u64 {
     }
     if even {
         if v < u {
-            return 5 * draw(seed, 2);
+            return if once_in(seed, 4) { 5 } else { 0 };
         }
     }
     some_cost(seed, apart(u, v), even)
@@ -68,12 +68,15 @@ fn fill(seed: &mut u64, n: u64, density: u64, even: bool, cost: &mut [u32; CELLS
 }
 
 // The cost table of a new hall.
-pub fn costs(seed: &mut u64, n: u64) -> [u32; CELLS] {
+pub fn costs(seed: &mut u64, n: u64, even: bool) -> [u32; CELLS] {
     let mut cost = [0u32; CELLS];
-    let even = once_in(seed, 2);
     let mut density = 1 + draw(seed, 8);
     if even {
-        density = 6 + draw(seed, 3);
+        density = if once_in(seed, 6) {
+            6 + draw(seed, 2)
+        } else {
+            8
+        };
     }
     fill(seed, n, density, even, &mut cost);
     let shape = draw(seed, 5);

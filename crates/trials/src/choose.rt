@@ -1,5 +1,4 @@
 // The choice of a call and its arguments.
-use super::chance::apart;
 use super::chance::costs;
 use super::chance::draw;
 use super::chance::once_in;
@@ -10,7 +9,6 @@ use super::image::Image;
 use super::outcome::Ask;
 use super::output::written;
 use super::passing;
-use super::passing::stretched;
 use super::places::BYTES;
 use super::places::CELLS;
 use super::places::STOPS;
@@ -31,6 +29,7 @@ use calls::call::LIST_ROUTES;
 use calls::call::MOVE_OVER;
 use calls::call::RAISE;
 use calls::call::WORK_OUT;
+use calls::call::is_edit;
 use calls::call::plain;
 use calls::entries::at;
 use calls::entries::at_long;
@@ -48,16 +47,12 @@ use std::num::wrapping_add_usize;
 
 pub struct Pair(pub u64, pub u64);
 
-// The number of stops of a hall, one to seven.
+// The number of stops of a hall, one to seven. Only halls of six or seven have crowded pairs, so that most are such.
 pub fn stops(seed: &mut u64) -> u64 {
     let x = draw(seed, 20);
     match x {
-        0 => 1,
-        1 => 2,
-        2 | 3 => 3,
-        4..=6 => 4,
-        7..=10 => 5,
-        11..=16 => 6,
+        0 | 1 => 1 + draw(seed, 5),
+        2..=4 => 6,
         _ => 7,
     }
 }
@@ -141,14 +136,27 @@ fn two(seed: &mut u64, stops: u64) -> Pair {
     outer(stops)
 }
 
-// The stops of a route list: often the first and the last, and now and then the same twice.
+// Stops that the hall has not both. Cut to 32 bits they are the first and the last; or their entry, if it were read, is that of the
+// second and the last.
+fn past(seed: &mut u64, stops: u64) -> Pair {
+    let last = outer(stops).1;
+    if once_in(seed, 2) {
+        return Pair(4294967296, last);
+    }
+    Pair(0, wrapping_add_u64(stops, last))
+}
+
+// The stops of a route list: often the first and the last, now and then the same twice, and now and then none of the hall.
 fn route_ends(seed: &mut u64, stops: u64) -> Pair {
     let x = draw(seed, 12);
     if x < 6 {
         return outer(stops);
     }
-    let s = stop(seed, stops);
     if x == 6 {
+        return past(seed, stops);
+    }
+    let s = stop(seed, stops);
+    if x == 7 {
         return Pair(s, s);
     }
     Pair(s, stop(seed, stops))
@@ -187,28 +195,28 @@ fn near(seed: &mut u64, present: u64) -> u64 {
     if past < 2 { 0 } else { past - 2 }
 }
 
-// Any cost.
-pub fn price(seed: &mut u64, u: u64, v: u64) -> u64 {
+// Any cost, often that of a tie.
+pub fn price(seed: &mut u64, tie: u64) -> u64 {
     let x = draw(seed, 24);
     match x {
         0 => 0,
         1 => 65536,
         2 => 65535,
         3 => 4294967297,
-        4..=15 => some_cost(seed, apart(u, v), true),
+        4..=15 => some_cost(seed, tie, true),
         _ => some_cost(seed, 0, false),
     }
 }
 
-// The cost that a call brings where stops take p to pass: that of a cheapen or a raise is often near the present one.
-fn cost_of(seed: &mut u64, call: u64, u: u64, v: u64, present: u64, p: u64) -> u64 {
+// The cost that a call brings, where that of a tie is this: that of a cheapen or a raise is often near the present one.
+fn cost_of(seed: &mut u64, call: u64, tie: u64, present: u64) -> u64 {
     match call {
         CHEAPEN | RAISE => if once_in(seed, 2) {
             near(seed, present)
         } else {
-            stretched(price(seed, u, v), p)
+            price(seed, tie)
         },
-        _ => stretched(price(seed, u, v), p),
+        _ => price(seed, tie),
     }
 }
 
@@ -225,8 +233,8 @@ fn blemish(seed: &mut u64, stops: u64, cost: &mut [u32; CELLS]) {
 }
 
 // A cost table that work out is to take, or sometimes not.
-pub fn brought(seed: &mut u64, stops: u64) -> [u32; CELLS] {
-    let mut cost = costs(seed, stops);
+pub fn brought(seed: &mut u64, stops: u64, even: bool) -> [u32; CELLS] {
+    let mut cost = costs(seed, stops, even);
     blemish(seed, stops, &mut cost);
     cost
 }
@@ -282,17 +290,38 @@ fn resized(seed: &mut u64, bytes: [u8; BYTES], length: usize) -> Image {
     }
 }
 
-// The costs of the present hall, or those of a new one.
-fn held_or_new(seed: &mut u64, stops: u64, cost: [u32; CELLS]) -> [u32; CELLS] {
+// Whether a new hall is to be even: half of the small ones, and most of those that can have crowded pairs.
+fn to_be_even(seed: &mut u64, stops: u64) -> bool {
+    if 5 < stops {
+        return 0 < draw(seed, 12);
+    }
+    once_in(seed, 2)
+}
+
+// The costs of the present hall, or those of a new one with these passing times.
+fn held_or_new(
+    seed: &mut u64,
+    stops: u64,
+    cost: [u32; CELLS],
+    passing: &[u32; STOPS],
+) -> [u32; CELLS] {
     if once_in(seed, 2) {
         return cost;
     }
-    costs(seed, stops)
+    let even = to_be_even(seed, stops);
+    let drawn = costs(seed, stops, even);
+    passing::matched(seed, stops, passing, drawn)
 }
 
 // An image to read or check: of the present hall or a new one, often damaged.
-fn some_image(seed: &mut u64, stops: u64, cost: [u32; CELLS], bytes: [u8; BYTES]) -> Image {
-    let held = held_or_new(seed, stops, cost);
+fn some_image(
+    seed: &mut u64,
+    stops: u64,
+    cost: [u32; CELLS],
+    passing: &[u32; STOPS],
+    bytes: [u8; BYTES],
+) -> Image {
+    let held = held_or_new(seed, stops, cost, passing);
     let image = image::written(stops, held, bytes);
     if once_in(seed, 2) {
         return image;
@@ -339,7 +368,7 @@ fn bytes(
     match number {
         IMAGE_READ | IMAGE_CHECK => {
             fill(seed, &mut bytes);
-            some_image(seed, stops, cost, bytes)
+            some_image(seed, stops, cost, &passing, bytes)
         }
         IMAGE_WRITE | LIST_ROUTES => {
             fill(seed, &mut bytes);
@@ -352,30 +381,47 @@ fn bytes(
 // The cost table of a call.
 fn table(seed: &mut u64, call: u64, stops: u64, passing: &[u32; STOPS]) -> [u32; CELLS] {
     if call == WORK_OUT {
-        let cost = brought(seed, stops);
+        let even = to_be_even(seed, stops);
+        let cost = brought(seed, stops, even);
         return passing::matched(seed, stops, passing, cost);
     }
     [0; CELLS]
 }
 
 // The list of a call.
-fn list(seed: &mut u64, call: u64, stops: u64, cost: [u32; CELLS], p: u64) -> List {
+fn list(seed: &mut u64, call: u64, stops: u64, cost: [u32; CELLS], ties: &[u32; CELLS]) -> List {
     if call == EDIT_LIST {
-        return draft::list(seed, stops, cost, p);
+        return draft::list(seed, stops, cost, ties);
     }
     no_edits()
 }
 
-// The call with its numbers, in a hall whose first stop takes p to pass.
-fn numbered(seed: &mut u64, number: u64, stops: u64, cost: &[u32; CELLS], p: u64) -> Call {
-    let ends = ends(seed, number, stops, cost);
-    let present = at(cost, place(stops, ends.0, ends.1));
+// An edit that makes a hall more even.
+fn evened(seed: &mut u64, stops: u64, cost: [u32; CELLS], ties: &[u32; CELLS]) -> Call {
+    let mut call = draft::evening(seed, stops, cost, ties);
+    call.n = size(seed, stops);
+    call
+}
+
+// The call with its numbers. Three of four edits of a large hall make it more even.
+fn numbered(
+    seed: &mut u64,
+    number: u64,
+    stops: u64,
+    cost: [u32; CELLS],
+    ties: &[u32; CELLS],
+) -> Call {
+    if is_edit(number) & (5 < stops) & (0 < draw(seed, 4)) {
+        return evened(seed, stops, cost, ties);
+    }
+    let ends = ends(seed, number, stops, &cost);
+    let at_ends = place(stops, ends.0, ends.1);
     Call {
         number,
         n: size(seed, stops),
         u: ends.0,
         v: ends.1,
-        cost: cost_of(seed, number, ends.0, ends.1, present, p),
+        cost: cost_of(seed, number, at(ties, at_ends), at(&cost, at_ends)),
     }
 }
 
@@ -387,13 +433,13 @@ pub fn ask(
     cost: [u32; CELLS],
     present: [u32; STOPS],
 ) -> Ask {
-    let p = at(&present, 0);
-    let call = numbered(seed, number, stops, &cost, p);
-    let image = bytes(seed, call, stops, cost, present);
-    let bytes = image.bytes;
+    let ties = passing::ties(stops, &present);
+    let call = numbered(seed, number, stops, cost, &ties);
     let passing = passing::lent(seed, number, stops, present);
+    let image = bytes(seed, call, stops, cost, passing);
+    let bytes = image.bytes;
     let table = table(seed, number, stops, &passing);
-    let list = list(seed, number, stops, cost, p);
+    let list = list(seed, number, stops, cost, &ties);
     Ask {
         call,
         odd: odd(seed),

@@ -71,26 +71,58 @@ fn behind(n: u64, t: Tables, o: Tables) -> u64 {
     )
 }
 
-// Whether tables are not those of their own costs and passing times, or these are not valid, or a pair has more ways than the limit.
-fn unlike_book(n: u64, t: Tables, seen: Book, limit: u64) -> bool {
+// Whether tables are not those of their own costs and passing times, or the costs are not valid; `seen` is the book of both.
+pub fn wrong(n: u64, t: Tables, seen: Book) -> bool {
     if model::bad_costs(n, &seen.cost) {
-        return true;
-    }
-    if model::crowded(n, &seen.ways, limit) {
         return true;
     }
     with_book(n, t, seen) != 0
 }
 
-// By the new numbers; `seen` is the book of their costs.
-pub fn wrong(n: u64, t: Tables, seen: Book) -> bool {
-    unlike_book(n, t, seen, model::WAYS)
-}
-
-// By the old ones, as the moving call tests them.
+// By the old numbers, as the moving call tests them: no pair has more ways than their limit.
 pub fn wrong_before(n: u64, t: Tables) -> bool {
     let seen = model::old_book_of(n, costs(t));
-    unlike_book(n, t, seen, model::OLD_WAYS)
+    if model::above(n, &seen.ways, model::OLD_WAYS) {
+        return true;
+    }
+    wrong(n, t, seen)
+}
+
+// The bit of the row that has entry i, where that differs.
+fn row_bit(n: u64, i: usize, differ: u64) -> u64 {
+    if n == 0 {
+        return 0;
+    }
+    let s = i as u64 / n;
+    if 63 < s {
+        return 0;
+    }
+    differ << s
+}
+
+// The set of the rows that differ in two tables of 32 bits.
+fn short_rows(n: u64, a: &[u32], b: &[u32]) -> u64 {
+    let mut set = 0u64;
+    for i in 0..cells(n) {
+        set |= row_bit(n, i, unlike(at(a, i), at(b, i)));
+    }
+    set
+}
+
+// The same of two tables of 64 bits.
+fn long_rows(n: u64, a: &[u64], b: &[u64]) -> u64 {
+    let mut set = 0u64;
+    for i in 0..cells(n) {
+        set |= row_bit(n, i, unlike(at_long(a, i), at_long(b, i)));
+    }
+    set
+}
+
+// The set of the sources whose row of times, ways and shares differs.
+pub fn rows(n: u64, t: Tables, o: Tables) -> u64 {
+    short_rows(n, &t.time, &o.time)
+        | short_rows(n, &t.ways, &o.ways)
+        | long_rows(n, &t.share, &o.share)
 }
 
 // What a call answers and leaves in the buffer.

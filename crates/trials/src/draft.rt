@@ -1,5 +1,4 @@
 // The choice of a list of edits. Each edit but one is drawn for the hall that its predecessors make, which is to accept it.
-use super::chance::apart;
 use super::chance::draw;
 use super::chance::once_in;
 use super::chance::some_cost;
@@ -8,7 +7,6 @@ use super::choose::price;
 use super::choose::suits;
 use super::model::edit_refusal;
 use super::model::edited_costs;
-use super::passing::stretched;
 use super::places::CELLS;
 use calls::call::CHEAPEN;
 use calls::call::Call;
@@ -16,6 +14,7 @@ use calls::call::DELETE;
 use calls::call::INSERT;
 use calls::call::RAISE;
 use calls::entries::at;
+use calls::entries::put;
 use calls::list::List;
 use calls::list::no_edits;
 use calls::list::then;
@@ -23,15 +22,13 @@ use calls::tables::cells;
 use calls::tables::place;
 use std::num::wrapping_add_u64;
 
-// How a list is drawn: its length; which edit is to be refused, and with what; whether links get a cost by the distance of their
-// stops, so that all routes forward tie if every stop takes p to pass; and from which edit on the list goes back to the hall
-// before it.
+// How a list is drawn: its length; which edit is to be refused, and with what; whether links forward get the cost of a tie; and
+// from which edit on the list goes back to the hall before it.
 struct Plan {
     length: u64,
     bad: u64,
     refusal: u64,
     even: bool,
-    p: u64,
     back: u64,
 }
 
@@ -54,8 +51,8 @@ fn length(seed: &mut u64) -> u64 {
     }
 }
 
-// In half of the lists no edit is to be refused but for too many ways, and three of four do not go back.
-fn planned(seed: &mut u64, p: u64) -> Plan {
+// In half of the lists no edit is to be refused, and three of four do not go back.
+fn planned(seed: &mut u64) -> Plan {
     let length = length(seed);
     let mut bad = length;
     if once_in(seed, 2) {
@@ -69,8 +66,7 @@ fn planned(seed: &mut u64, p: u64) -> Plan {
         length,
         bad,
         refusal: 4 + draw(seed, 5),
-        even: once_in(seed, 2),
-        p,
+        even: 0 < draw(seed, 4),
         back,
     }
 }
@@ -89,25 +85,28 @@ fn different(seed: &mut u64, stops: u64, even: bool) -> Pair {
     Pair(u, v)
 }
 
-// The cost of the link between two stops by their distance.
-fn even_cost(pair: Pair, p: u64) -> u64 {
-    stretched(apart(pair.0, pair.1), p)
-}
-
-// Whether two stops are wished for a call, where the present cost of their link is this: for an even list, if that is not
-// by their distance.
-fn wished(call: u64, even: bool, p: u64, pair: Pair, present: u64) -> bool {
+// Whether two stops are wished for a call, where the present cost of their link and that of a tie are these: for an even list, if
+// they differ.
+fn wished(call: u64, even: bool, present: u64, tie: u64) -> bool {
     if even {
-        return present != even_cost(pair, p);
+        return present != tie;
     }
     suits(call, present)
 }
 
 // Two different stops: where they are not wished, drawn anew up to seven times.
-fn fitting(seed: &mut u64, call: u64, stops: u64, even: bool, p: u64, cost: &[u32; CELLS]) -> Pair {
+fn fitting(
+    seed: &mut u64,
+    call: u64,
+    stops: u64,
+    even: bool,
+    cost: &[u32; CELLS],
+    ties: &[u32; CELLS],
+) -> Pair {
     let mut pair = different(seed, stops, even);
     for i in 0u64..7 {
-        if !wished(call, even, p, pair, at(cost, place(stops, pair.0, pair.1))) {
+        let spot = place(stops, pair.0, pair.1);
+        if !wished(call, even, at(cost, spot), at(ties, spot)) {
             pair = different(seed, stops, even);
         }
     }
@@ -131,7 +130,7 @@ fn to_cost(seed: &mut u64, stops: u64, pair: Pair, present: u64, cost: u64) -> C
         return edit_of(INSERT, stops, pair, cost);
     }
     if cost == 0 {
-        return edit_of(DELETE, stops, pair, price(seed, pair.0, pair.1));
+        return edit_of(DELETE, stops, pair, price(seed, present));
     }
     if cost < present {
         return edit_of(CHEAPEN, stops, pair, cost);
@@ -139,9 +138,9 @@ fn to_cost(seed: &mut u64, stops: u64, pair: Pair, present: u64, cost: u64) -> C
     edit_of(RAISE, stops, pair, cost)
 }
 
-// Another cost for a link, 0 for none: in an even list that by the distance of its stops, unless it has that.
-fn other_cost(seed: &mut u64, pair: Pair, present: u64, even: bool, p: u64) -> u64 {
-    let cost = some_cost(seed, even_cost(pair, p), even);
+// Another cost for a link, 0 for none: in an even list that of a tie, unless it has that.
+fn other_cost(seed: &mut u64, present: u64, even: bool, tie: u64) -> u64 {
+    let cost = some_cost(seed, tie, even);
     let none = (present != 0) & once_in(seed, 3);
     if cost != present {
         return if none & !even { 0 } else { cost };
@@ -149,12 +148,13 @@ fn other_cost(seed: &mut u64, pair: Pair, present: u64, even: bool, p: u64) -> u
     if none { 0 } else { 1 + present % 65535 }
 }
 
-// An edit that is accepted, but for too many ways, in a hall of two stops or more.
-fn good(seed: &mut u64, stops: u64, even: bool, p: u64, cost: &[u32; CELLS]) -> Call {
+// An edit that is accepted, in a hall of two stops or more.
+fn good(seed: &mut u64, stops: u64, even: bool, cost: &[u32; CELLS], ties: &[u32; CELLS]) -> Call {
     let wish = if once_in(seed, 2) { INSERT } else { DELETE };
-    let pair = fitting(seed, wish, stops, even, p, cost);
-    let present = at(cost, place(stops, pair.0, pair.1));
-    let other = other_cost(seed, pair, present, even, p);
+    let pair = fitting(seed, wish, stops, even, cost, ties);
+    let spot = place(stops, pair.0, pair.1);
+    let present = at(cost, spot);
+    let other = other_cost(seed, present, even, at(ties, spot));
     to_cost(seed, stops, pair, present, other)
 }
 
@@ -169,17 +169,48 @@ fn strayed(stops: u64, cost: &[u32; CELLS], first: &[u32; CELLS]) -> usize {
     found
 }
 
-// An edit that gives a link the cost that it has in another table.
-fn home(seed: &mut u64, plan: Plan, stops: u64, cost: &[u32; CELLS], first: &[u32; CELLS]) -> Call {
+// An edit that gives a link the cost that it has in another table; any edit where there is none.
+fn home(
+    seed: &mut u64,
+    stops: u64,
+    even: bool,
+    cost: &[u32; CELLS],
+    ties: &[u32; CELLS],
+    first: &[u32; CELLS],
+) -> Call {
     let i = strayed(stops, cost, first);
     if CELLS <= i {
-        return good(seed, stops, plan.even, plan.p, cost);
+        return good(seed, stops, even, cost, ties);
     }
     if stops == 0 {
-        return good(seed, stops, plan.even, plan.p, cost);
+        return good(seed, stops, even, cost, ties);
     }
     let pair = Pair(i as u64 / stops, i as u64 % stops);
     to_cost(seed, stops, pair, at(cost, i), at(first, i))
+}
+
+// Whether a place of a table is that of a link forward.
+fn forward(stops: u64, i: usize) -> bool {
+    if stops == 0 {
+        return false;
+    }
+    i as u64 / stops < i as u64 % stops
+}
+
+// Gives every link forward the cost of a tie.
+fn even_out(stops: u64, ties: &[u32; CELLS], cost: &mut [u32; CELLS]) {
+    for i in 0..cells(stops) {
+        if forward(stops, i) {
+            put(cost, i, at(ties, i));
+        }
+    }
+}
+
+// An edit that makes a hall more even; any where it is so already.
+pub fn evening(seed: &mut u64, stops: u64, cost: [u32; CELLS], ties: &[u32; CELLS]) -> Call {
+    let mut even = cost;
+    even_out(stops, ties, &mut even);
+    home(seed, stops, true, &cost, ties, &even)
 }
 
 // Any kind of edit.
@@ -210,7 +241,7 @@ fn bad_cost(seed: &mut u64) -> u64 {
 
 // A cheapen that does not, or a raise that does not.
 fn wrong_side(seed: &mut u64, stops: u64, cost: &[u32; CELLS]) -> Call {
-    let pair = fitting(seed, DELETE, stops, false, 0, cost);
+    let pair = fitting(seed, DELETE, stops, false, cost, cost);
     let present = at(cost, place(stops, pair.0, pair.1));
     let more = draw(seed, 3);
     if once_in(seed, 2) {
@@ -235,13 +266,13 @@ fn bad(seed: &mut u64, refusal: u64, stops: u64, cost: &[u32; CELLS]) -> Call {
         6 => edit_of(
             INSERT,
             stops,
-            fitting(seed, DELETE, stops, false, 0, cost),
+            fitting(seed, DELETE, stops, false, cost, cost),
             1 + draw(seed, 4),
         ),
         7 => edit_of(
             CHEAPEN + draw(seed, 3),
             stops,
-            fitting(seed, INSERT, stops, false, 0, cost),
+            fitting(seed, INSERT, stops, false, cost, cost),
             1 + draw(seed, 4),
         ),
         _ => wrong_side(seed, stops, cost),
@@ -255,15 +286,16 @@ fn drawn(
     i: u64,
     stops: u64,
     cost: &[u32; CELLS],
+    ties: &[u32; CELLS],
     first: &[u32; CELLS],
 ) -> Call {
     if i == plan.bad {
         return bad(seed, plan.refusal, stops, cost);
     }
     if plan.back <= i {
-        return home(seed, plan, stops, cost, first);
+        return home(seed, stops, plan.even, cost, ties, first);
     }
-    good(seed, stops, plan.even, plan.p, cost)
+    good(seed, stops, plan.even, cost, ties)
 }
 
 // The draft with one edit more.
@@ -280,16 +312,16 @@ fn longer(draft: Draft, stops: u64, call: Call) -> Draft {
     }
 }
 
-// A list for a hall with these costs, whose first stop takes p to pass.
-pub fn list(seed: &mut u64, stops: u64, first: [u32; CELLS], p: u64) -> List {
-    let plan = planned(seed, p);
+// A list for a hall with these costs, of which those are ties.
+pub fn list(seed: &mut u64, stops: u64, first: [u32; CELLS], ties: &[u32; CELLS]) -> List {
+    let plan = planned(seed);
     let mut draft = Draft {
         list: no_edits(),
         cost: first,
     };
     for i in 0..plan.length {
         let cost = draft.cost;
-        let call = drawn(seed, plan, i, stops, &cost, &first);
+        let call = drawn(seed, plan, i, stops, &cost, ties, &first);
         draft = longer(draft, stops, call);
     }
     draft.list

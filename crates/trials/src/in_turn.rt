@@ -1,17 +1,19 @@
 // A list of edits, judged in turn: each as an edit of its own, in the hall that its predecessors made.
 use super::model::Book;
 use super::model::Verdict;
+use super::model::crowded;
 use super::model::edited;
 use super::outcome::Ask;
 use calls::answer::of_number;
 use calls::list::edit_at;
 use std::num::wrapping_add_u64;
 
-// What has come of the edits so far: the book that they left and the sources that they touched; or the refusal of the first
-// refused edit and its place.
+// What has come of the edits so far: the book that they left, the sources that they touched and whether they left a crowded pair;
+// or the refusal of the first refused edit and its place.
 struct Standing {
     book: Book,
     touched: u64,
+    crowded: bool,
     refusal: u64,
     place: u64,
 }
@@ -38,6 +40,7 @@ fn turn(edit: Ask, stops: u64, place: u64, before: Standing) -> Standing {
         return Standing {
             book,
             touched: before.touched,
+            crowded: before.crowded,
             refusal: answer.refusal,
             place,
         };
@@ -45,6 +48,7 @@ fn turn(edit: Ask, stops: u64, place: u64, before: Standing) -> Standing {
     Standing {
         book: next,
         touched: before.touched | answer.touched,
+        crowded: before.crowded | crowded(stops, next),
         refusal: 0,
         place: 0,
     }
@@ -55,6 +59,7 @@ fn turns(ask: Ask, count: usize, stops: u64, book: Book) -> Standing {
     let mut standing = Standing {
         book,
         touched: 0,
+        crowded: false,
         refusal: 0,
         place: 0,
     };
@@ -76,6 +81,7 @@ pub fn listed(ask: Ask, stops: u64, book: Book) -> Verdict {
             answer,
             book,
             bytes,
+            passed: end.crowded,
         };
     }
     let next = end.book;
@@ -85,5 +91,6 @@ pub fn listed(ask: Ask, stops: u64, book: Book) -> Verdict {
         answer,
         book: next,
         bytes,
+        passed: end.crowded,
     }
 }

@@ -4,6 +4,7 @@
 mod chance;
 mod choose;
 mod compare;
+mod crowds;
 mod draft;
 mod image;
 mod in_turn;
@@ -30,7 +31,9 @@ use calls::tables::filled;
 use chance::draw;
 use chance::once_in;
 use model::Book;
+use model::Verdict;
 use outcome::Ask;
+use outcome::Outcome;
 use outcome::asked;
 use passing::brings;
 use places::CELLS;
@@ -39,7 +42,7 @@ use places::byte;
 use tally::ROOM;
 use tally::add;
 
-const RUNS: u64 = 2500;
+const RUNS: u64 = 1500;
 
 // The book, the tables, what the last call answered, and whether it was to be refused.
 struct State {
@@ -50,7 +53,7 @@ struct State {
 }
 
 // Counts an answer, and what differs from its verdict.
-fn note(tally: &mut [u64; ROOM], call: u64, answer: Answer, differ: u64, ties: bool) {
+fn note(tally: &mut [u64; ROOM], call: u64, answer: Answer, differ: u64) {
     tally::add_refusal(tally, call, answer.refusal);
     add(tally, tally::ANSWERS, 1);
     if call != IMAGE_CHECK {
@@ -58,9 +61,22 @@ fn note(tally: &mut [u64; ROOM], call: u64, answer: Answer, differ: u64, ties: b
     }
     add(tally, tally::TOUCHED, answer.rows);
     tally::add_differences(tally, differ);
-    if ties {
-        add(tally, tally::TIES, 1);
-    }
+}
+
+// Counts a call that is to be accepted, by the hall that it leaves. Rows that are not as the rule has them are differences.
+fn note_accepted(
+    tally: &mut [u64; ROOM],
+    call: u64,
+    stops: u64,
+    book: Book,
+    verdict: Verdict,
+    former: Tables,
+    left: Tables,
+) {
+    let next = verdict.book;
+    add(tally, tally::TIES, model::ties(stops, next) as u64);
+    let rows = crowds::note(tally, call, stops, book, verdict, former, left);
+    tally::add_differences(tally, rows);
 }
 
 // Counts a list: its length, the place of its refused edit, and whether it undid all that it did.
@@ -97,6 +113,48 @@ fn note_routes(tally: &mut [u64; ROOM], ask: Ask, stops: u64, book: Book, refusa
             list.length < ask.length,
         );
     }
+    crowds::note_routes(tally, ask, stops, book, refusal, list.length);
+}
+
+// Counts a call by its kind.
+fn note_kind(
+    tally: &mut [u64; ROOM],
+    ask: Ask,
+    stops: u64,
+    book: Book,
+    verdict: Verdict,
+    former: Tables,
+    made: Outcome,
+) {
+    let answer = made.answer;
+    let left = made.tables;
+    let number = ask.call.number;
+    match number {
+        EDIT_LIST => {
+            note_list(tally, ask.list.length, answer, former, left);
+            crowds::note_list(tally, stops, book, verdict);
+        }
+        LIST_ROUTES => note_routes(tally, ask, stops, book, answer.refusal),
+        _ => {}
+    }
+}
+
+// Counts a call by the passing times that it is lent.
+fn note_lent(
+    tally: &mut [u64; ROOM],
+    call: u64,
+    stops: u64,
+    lent: &[u32; STOPS],
+    verdict: Verdict,
+    refusal: u64,
+    wrong: bool,
+) {
+    if passing::bad(stops, lent) {
+        passed::note_bad(tally, call, refusal, wrong);
+    }
+    if 0 < passing::above_zero(stops, lent) {
+        passed::note_passing(tally, call, stops, verdict);
+    }
 }
 
 // The passing times that a call is lent.
@@ -118,8 +176,8 @@ fn trial(
     wrong: bool,
 ) -> State {
     let lent = lent(ask, tables);
-    let bad = passing::bad(stops, &lent);
-    let verdict = model::expect(ask, stops, book, bad, wrong);
+    let number = ask.call.number;
+    let verdict = model::expect(ask, stops, book, passing::bad(stops, &lent), wrong);
     let made = asked(ask, stops, tables);
     let answer = made.answer;
     let left = made.tables;
@@ -127,19 +185,11 @@ fn trial(
     let next = verdict.book;
     let refused = right.refusal != 0;
     let differ = compare::differences(stops, tables, made, verdict);
-    let ties = !refused & model::crowded(stops, &next.ways, 1);
-    note(tally, ask.call.number, answer, differ, ties);
-    if bad {
-        passed::note_bad(tally, ask.call.number, answer.refusal, wrong);
-    }
-    if 0 < passing::above_zero(stops, &lent) {
-        passed::note_passing(tally, ask.call.number, stops, next, right.refusal, ties);
-    }
-    if ask.call.number == EDIT_LIST {
-        note_list(tally, ask.list.length, answer, tables, left);
-    }
-    if ask.call.number == LIST_ROUTES {
-        note_routes(tally, ask, stops, book, answer.refusal);
+    note(tally, number, answer, differ);
+    note_lent(tally, number, stops, &lent, verdict, answer.refusal, wrong);
+    note_kind(tally, ask, stops, book, verdict, tables, made);
+    if !refused {
+        note_accepted(tally, number, stops, book, verdict, tables, left);
     }
     State {
         book: next,
@@ -188,12 +238,23 @@ fn spoiled_trial(
 // A moving call on five tables, which it judges by the old numbers and passing times of 0. Their costs are the book's.
 fn moving(tally: &mut [u64; ROOM], ask: Ask, stops: u64, book: Book, tables: Tables) -> State {
     let wrong = compare::wrong_before(stops, tables);
-    let next = trial(tally, ask, stops, book, tables, wrong);
-    tally::add_move(
-        tally,
-        model::most_ways(stops, &book.ways),
-        next.answer.refusal,
-    );
+    trial(tally, ask, stops, book, tables, wrong)
+}
+
+// A moving call on the present tables, which have the new scale.
+fn moving_present(
+    tally: &mut [u64; ROOM],
+    ask: Ask,
+    stops: u64,
+    book: Book,
+    hall: Tables,
+) -> State {
+    let next = moving(tally, ask, stops, book, hall);
+    let refusal = next.answer.refusal;
+    crowds::note_move(tally, stops, book, refusal);
+    if refusal == 0 {
+        tally::add_move(tally, model::all_ways(stops, book), refusal);
+    }
     next
 }
 
@@ -201,7 +262,9 @@ fn moving(tally: &mut [u64; ROOM], ask: Ask, stops: u64, book: Book, tables: Tab
 fn moving_other(tally: &mut [u64; ROOM], ask: Ask, stops: u64, other: Tables) -> State {
     let tables = outcome::with_passing(&passing::none(), stops, other);
     let book = model::book_of(stops, outcome::costs(tables), passing::none());
-    moving(tally, ask, stops, book, tables)
+    let next = moving(tally, ask, stops, book, tables);
+    tally::add_move(tally, model::all_ways(stops, book), next.answer.refusal);
+    next
 }
 
 // The tables of another hall for a moving call: the present ones with an entry changed, or the old ones of their costs.
@@ -224,7 +287,7 @@ fn moving_step(
     let book = state.book;
     let hall = state.hall;
     if 0 < draw(seed, 4) {
-        return moving(tally, ask, stops, book, hall);
+        return moving_present(tally, ask, stops, book, hall);
     }
     let other = to_move(seed, tally, stops, hall);
     let next = moving_other(tally, ask, stops, other);
@@ -285,12 +348,13 @@ fn step(seed: &mut u64, tally: &mut [u64; ROOM], stops: u64, state: State, call:
     }
     let next = trial(tally, ask, stops, book, hall, false);
     if to_reverse(seed, call, next.refused) {
+        crowds::note_reversed(tally, stops, book, next.book);
         return reversed_trial(tally, ask, stops, hall, next);
     }
     next
 }
 
-// An empty hall, over tables of any content; in half of the cases a work out follows.
+// An empty hall, over tables of any content; in three of four cases a work out follows.
 fn emptied(seed: &mut u64, tally: &mut [u64; ROOM], stops: u64, tables: Tables) -> State {
     let none = [0u32; CELLS];
     let state = trial(
@@ -301,7 +365,7 @@ fn emptied(seed: &mut u64, tally: &mut [u64; ROOM], stops: u64, tables: Tables) 
         tables,
         true,
     );
-    if once_in(seed, 2) {
+    if 0 < draw(seed, 4) {
         return step(seed, tally, stops, state, WORK_OUT);
     }
     state
@@ -328,15 +392,13 @@ fn moved(seed: &mut u64, tally: &mut [u64; ROOM], stops: u64) -> State {
         return emptied(seed, tally, stops, left);
     }
     add(tally, tally::MOVED, 1);
-    if model::crowded(stops, &book.ways, 1) {
-        add(tally, tally::MOVED_TIES, 1);
-    }
+    add(tally, tally::MOVED_TIES, model::ties(stops, book) as u64);
     state
 }
 
-// Four of five sequences begin with a moving call, so that about half start from a moved hall.
+// Nearly all sequences begin with a moving call, so that about half start from a moved hall.
 fn first(seed: &mut u64, tally: &mut [u64; ROOM], stops: u64) -> State {
-    if once_in(seed, 5) {
+    if once_in(seed, 12) {
         return emptied(seed, tally, stops, filled(7, 7));
     }
     moved(seed, tally, stops)
@@ -354,7 +416,7 @@ fn sequence(seed: &mut u64, tally: &mut [u64; ROOM]) {
     let stops = choose::stops(seed);
     add(tally, tally::SEQUENCES, 1);
     let state = first(seed, tally, stops);
-    let count = 20 + draw(seed, 21);
+    let count = 40 + draw(seed, 41);
     steps(seed, tally, stops, state, count);
 }
 

@@ -30,6 +30,7 @@ use calls::call::WORK_OUT;
 use calls::call::is_edit;
 use calls::entries::at;
 use calls::entries::at_long;
+use calls::entries::wide;
 use calls::lengths::PASSING;
 use calls::lengths::TABLES;
 use calls::tables::cells;
@@ -45,24 +46,28 @@ pub struct Book {
     pub score: [u64; STOPS],
 }
 
-// What a call must say, and the book and the buffer after it.
+// What a call must say, the book and the buffer after it, and whether a list of edits passed a hall with a crowded pair.
 pub struct Verdict {
     pub answer: Answer,
     pub book: Book,
     pub bytes: [u8; BYTES],
+    pub passed: bool,
 }
 
-// The most ways of a pair and what a whole share counts, and both before.
-pub const WAYS: u64 = 12;
+// The most ways of a pair that is not crowded and what a whole share counts, and both before.
+pub const WAYS: u32 = 12;
 
 const SCALE: u32 = 27720;
 
-pub const OLD_WAYS: u64 = 22;
+pub const OLD_WAYS: u32 = 22;
 
 const OLD_SCALE: u32 = 232792560;
 
-// By one of the scales.
-fn listed(n: u64, scale: u32, cost: [u32; CELLS], passing: [u32; STOPS]) -> Book {
+// No pair has more ways.
+const NO_LIMIT: u32 = 4294967295;
+
+// By a limit and a scale.
+fn listed(n: u64, limit: u32, scale: u32, cost: [u32; CELLS], passing: [u32; STOPS]) -> Book {
     let mut time = [0u64; CELLS];
     let mut ways = [0u64; CELLS];
     let mut share = [0u64; CELLS];
@@ -71,6 +76,7 @@ fn listed(n: u64, scale: u32, cost: [u32; CELLS], passing: [u32; STOPS]) -> Book
         &cost,
         &passing,
         n,
+        limit,
         scale,
         &mut time,
         &mut ways,
@@ -88,12 +94,19 @@ fn listed(n: u64, scale: u32, cost: [u32; CELLS], passing: [u32; STOPS]) -> Book
 }
 
 pub fn book_of(n: u64, cost: [u32; CELLS], passing: [u32; STOPS]) -> Book {
-    listed(n, SCALE, cost, passing)
+    listed(n, WAYS, SCALE, cost, passing)
 }
 
-// With passing times of 0, which old halls have.
+// By the old numbers, with passing times of 0, which old halls have. No old hall has a pair of more ways than their limit.
 pub fn old_book_of(n: u64, cost: [u32; CELLS]) -> Book {
-    listed(n, OLD_SCALE, cost, passing::none())
+    listed(n, OLD_WAYS, OLD_SCALE, cost, passing::none())
+}
+
+// The ways of the pair that has the most over a book's links, all of them counted.
+pub fn all_ways(n: u64, book: Book) -> u64 {
+    let cost = book.cost;
+    let passing = book.passing;
+    most_ways(n, &listed(n, NO_LIMIT, SCALE, cost, passing).ways)
 }
 
 // Whether an entry of a cost table is one that work out refuses.
@@ -127,8 +140,8 @@ fn larger(x: u64, y: u64) -> u64 {
     if x < y { y } else { x }
 }
 
-// The ways of the pair that has the most.
-pub fn most_ways(n: u64, ways: &[u64; CELLS]) -> u64 {
+// The largest entry of a table of ways.
+fn most_ways(n: u64, ways: &[u64; CELLS]) -> u64 {
     let mut most = 0u64;
     for i in 0..cells(n) {
         most = larger(most, at_long(ways, i));
@@ -137,8 +150,18 @@ pub fn most_ways(n: u64, ways: &[u64; CELLS]) -> u64 {
 }
 
 // Whether a pair has more ways than a limit.
-pub fn crowded(n: u64, ways: &[u64; CELLS], limit: u64) -> bool {
-    limit < most_ways(n, ways)
+pub fn above(n: u64, ways: &[u64; CELLS], limit: u32) -> bool {
+    wide(limit) < most_ways(n, ways)
+}
+
+// Whether a pair has several ways.
+pub fn ties(n: u64, book: Book) -> bool {
+    above(n, &book.ways, 1)
+}
+
+// Whether a pair is crowded.
+pub fn crowded(n: u64, book: Book) -> bool {
+    above(n, &book.ways, WAYS)
 }
 
 // The cost of a link that is inserted, cheapened or raised.
@@ -245,20 +268,25 @@ fn image_refusal(ask: Ask) -> u64 {
 }
 
 // Refusal 10 of the calls that write.
-fn write_refusal(ask: Ask, stops: u64, cost: [u32; CELLS], passing: [u32; STOPS]) -> u64 {
+fn write_refusal(ask: Ask, stops: u64, book: Book) -> u64 {
     let call = ask.call;
     let bytes = ask.bytes;
+    let cost = book.cost;
+    let passing = book.passing;
     let output = written(call, stops, cost, passing, bytes);
     if ask.length < output.length { 10 } else { 0 }
 }
 
-// Refusals 4 and 10 of a route list, which may lead from a stop to itself.
-fn routes_refusal(ask: Ask, stops: u64, cost: [u32; CELLS], passing: [u32; STOPS]) -> u64 {
+// Refusals 4, 14 and 10 of a route list, which may lead from a stop to itself.
+fn routes_refusal(ask: Ask, stops: u64, book: Book) -> u64 {
     let call = ask.call;
     if bad_stop(call) {
         return 4;
     }
-    write_refusal(ask, stops, cost, passing)
+    if wide(WAYS) < at_long(&book.ways, place(stops, call.u, call.v)) {
+        return 14;
+    }
+    write_refusal(ask, stops, book)
 }
 
 // Refusal 12 of a list of edits.
@@ -266,16 +294,16 @@ fn list_refusal(ask: Ask) -> u64 {
     if EDITS < ask.list.length { 12 } else { 0 }
 }
 
-// Refusals 4 to 8, 10 and 12, of the calls that test the tables; a list's edits are judged in their turn.
-fn held_refusal(ask: Ask, stops: u64, cost: [u32; CELLS], passing: [u32; STOPS]) -> u64 {
+// Refusals 4 to 8, 10, 12 and 14, of the calls that test the tables; a list's edits are judged in their turn.
+fn held_refusal(ask: Ask, stops: u64, book: Book) -> u64 {
     let call = ask.call;
     let number = call.number;
     match number {
         AUDIT | MOVE_OVER => 0,
         EDIT_LIST => list_refusal(ask),
-        IMAGE_WRITE => write_refusal(ask, stops, cost, passing),
-        LIST_ROUTES => routes_refusal(ask, stops, cost, passing),
-        _ => edit_refusal(call, at(&cost, place(stops, call.u, call.v))),
+        IMAGE_WRITE => write_refusal(ask, stops, book),
+        LIST_ROUTES => routes_refusal(ask, stops, book),
+        _ => edit_refusal(call, at(&book.cost, place(stops, call.u, call.v))),
     }
 }
 
@@ -292,15 +320,13 @@ fn door_refusal(ask: Ask, stops: u64, bad: bool) -> u64 {
     0
 }
 
-// Refusals 1 to 10, 12 and 13, by rising number but for 13, which follows 2; `bad` says that a passing time is too large, and
-// `wrong` that the tables are not those of their hall, for the moving call by the old numbers.
+// Refusals but for 11, by rising number but for 13, which follows 2, and 14, which follows 4; `bad` says that a passing time is too
+// large, and `wrong` that the tables are not those of their hall, for the moving call by the old numbers.
 fn refusal(ask: Ask, stops: u64, book: Book, bad: bool, wrong: bool) -> u64 {
     let door = door_refusal(ask, stops, bad);
     if door != 0 {
         return door;
     }
-    let cost = book.cost;
-    let passing = book.passing;
     let number = ask.call.number;
     match number {
         EMPTY_HALL => 0,
@@ -309,7 +335,7 @@ fn refusal(ask: Ask, stops: u64, book: Book, bad: bool, wrong: bool) -> u64 {
         _ => if wrong {
             3
         } else {
-            held_refusal(ask, stops, cost, passing)
+            held_refusal(ask, stops, book)
         },
     }
 }
@@ -355,13 +381,19 @@ fn passing_after(ask: Ask, passing: [u32; STOPS]) -> [u32; STOPS] {
     passing
 }
 
-fn refused(refusal: u64, ask: Ask, book: Book) -> Verdict {
-    let bytes = ask.bytes;
+// What a call must say that is no list of edits, and what it must leave.
+fn single(answer: Answer, book: Book, bytes: [u8; BYTES]) -> Verdict {
     Verdict {
-        answer: of_number(refusal),
+        answer,
         book,
         bytes,
+        passed: false,
     }
+}
+
+fn refused(refusal: u64, ask: Ask, book: Book) -> Verdict {
+    let bytes = ask.bytes;
+    single(of_number(refusal), book, bytes)
 }
 
 // An accepted call that writes.
@@ -374,11 +406,7 @@ fn wrote(ask: Ask, stops: u64, book: Book) -> Verdict {
     let bytes = output.bytes;
     let mut answer = of_number(0);
     answer.length = output.length as u64;
-    Verdict {
-        answer,
-        book,
-        bytes,
-    }
+    single(answer, book, bytes)
 }
 
 // The sources that an accepted edit touches.
@@ -407,27 +435,20 @@ fn cost_before(ask: Ask, stops: u64, before: [u32; CELLS]) -> u64 {
     }
 }
 
-// A call that leaves other links, and fails none of the tests but 11.
+// A call that leaves other links, and fails none of the tests.
 fn changed(ask: Ask, stops: u64, book: Book) -> Verdict {
     let before = book.cost;
     let after = costs_after(ask, stops, before);
     let present = book.passing;
     let passing = passing_after(ask, present);
     let next = book_of(stops, after, passing);
-    if crowded(stops, &next.ways, WAYS) {
-        return refused(11, ask, book);
-    }
     let set = touched(ask, stops, before, after, passing);
     let bytes = ask.bytes;
     let mut answer = of_number(0);
     answer.touched = set;
     answer.rows = lister::number(set);
     answer.before = cost_before(ask, stops, before);
-    Verdict {
-        answer,
-        book: next,
-        bytes,
-    }
+    single(answer, next, bytes)
 }
 
 // What an edit must answer and leave that fails none of the tests 1, 2, 13 and 3.
@@ -443,7 +464,7 @@ pub fn edited(ask: Ask, stops: u64, book: Book) -> Verdict {
 
 // A moving call that fails none of the tests 1 to 3. It leaves the tables of the book.
 fn moved(ask: Ask, stops: u64, book: Book) -> Verdict {
-    if crowded(stops, &book.ways, WAYS) {
+    if crowded(stops, book) {
         return refused(11, ask, book);
     }
     refused(0, ask, book)

@@ -1,4 +1,5 @@
 // Tables made with the old numbers: the lister's, by the old scale.
+use super::chance::once_in;
 use super::choose::brought;
 use super::model::Book;
 use super::model::old_book_of;
@@ -55,5 +56,6 @@ pub fn of_costs(n: u64, cost: [u32; CELLS], t: Tables) -> Tables {
 
 // The old tables of a drawn hall, with the entry 7 behind them. Some of its costs are not valid.
 pub fn drawn(seed: &mut u64, n: u64) -> Tables {
-    of_costs(n, brought(seed, n), filled(7, 7))
+    let even = once_in(seed, 4);
+    of_costs(n, brought(seed, n, even), filled(7, 7))
 }

@@ -1,6 +1,7 @@
 // Counts what passing times do.
 use super::model;
 use super::model::Book;
+use super::model::Verdict;
 use super::passing;
 use super::passing::brings;
 use super::places::CELLS;
@@ -37,28 +38,31 @@ fn note_move(tally: &mut [u64; ROOM], stops: u64, book: Book, refusal: u64) {
     add(tally, PASSED_KEPT, ((refusal == 3) & (shares == 0)) as u64);
 }
 
-// Counts a call in a hall with passing times above 0: an accepted one that brings them with the times that they change.
-pub fn note_passing(
-    tally: &mut [u64; ROOM],
-    call: u64,
-    stops: u64,
-    book: Book,
-    refusal: u64,
-    ties: bool,
-) {
-    add(tally, PASSED_CROWDED, (refusal == 11) as u64);
-    add(tally, PASSED_TIES, ties as u64);
+// Counts an accepted call that brings passing times above 0, with the times that they change.
+fn note_brought(tally: &mut [u64; ROOM], stops: u64, book: Book) {
+    let cost = book.cost;
+    let plain = model::book_of(stops, cost, passing::none());
+    add(tally, PASSED_HALLS, 1);
+    add(
+        tally,
+        PASSED_TIMES,
+        long(&book.time, &plain.time, cells(stops)),
+    );
+}
+
+// Counts a call in a hall with passing times above 0.
+pub fn note_passing(tally: &mut [u64; ROOM], call: u64, stops: u64, verdict: Verdict) {
+    let book = verdict.book;
+    let refusal = verdict.answer.refusal;
     if call == MOVE_OVER {
         note_move(tally, stops, book, refusal);
     }
-    if brings(call) & (refusal == 0) {
-        let cost = book.cost;
-        let plain = model::book_of(stops, cost, passing::none());
-        add(tally, PASSED_HALLS, 1);
-        add(
-            tally,
-            PASSED_TIMES,
-            long(&book.time, &plain.time, cells(stops)),
-        );
+    if refusal != 0 {
+        return;
+    }
+    add(tally, PASSED_TIES, model::ties(stops, book) as u64);
+    add(tally, PASSED_CROWDED, model::crowded(stops, book) as u64);
+    if brings(call) {
+        note_brought(tally, stops, book);
     }
 }

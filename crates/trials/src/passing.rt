@@ -1,4 +1,5 @@
 // Passing times: those that a call brings, and what a table of them is.
+use super::chance::apart;
 use super::chance::draw;
 use super::chance::once_in;
 use super::places::CELLS;
@@ -11,6 +12,7 @@ use calls::entries::at;
 use calls::entries::put;
 use calls::tables::cells;
 use calls::tables::stops;
+use std::num::wrapping_add_u64;
 
 // Whether a call brings the passing times: the host sets them right before it, and back if it is refused. Every other call is
 // lent the present ones.
@@ -39,10 +41,10 @@ pub fn bad(n: u64, passing: &[u32; STOPS]) -> bool {
 // The passing time of a stop in a new hall, by the kind of the hall: none, small ones, 1 or 2 at every stop, or some of the largest.
 fn some_time(seed: &mut u64, kind: u64) -> u64 {
     match kind {
-        0..=2 => 0,
-        3 | 4 => draw(seed, 3),
-        5 | 6 => 1,
-        7 => 2,
+        0..=4 => 0,
+        5 => draw(seed, 3),
+        6..=8 => 1,
+        9 | 10 => 2,
         _ => if once_in(seed, 3) {
             65535
         } else {
@@ -61,7 +63,7 @@ fn fill(seed: &mut u64, n: u64, kind: u64, passing: &mut [u32; STOPS]) {
 // The passing times of a new hall: one in three has none.
 pub fn drawn(seed: &mut u64, n: u64) -> [u32; STOPS] {
     let mut passing = [0u32; STOPS];
-    let kind = draw(seed, 9);
+    let kind = draw(seed, 12);
     fill(seed, n, kind, &mut passing);
     passing
 }
@@ -76,13 +78,13 @@ pub fn too_large(seed: &mut u64) -> u64 {
     }
 }
 
-// The passing times that a call brings, now and then one of them too large; those of an image are often the present ones, so
+// The passing times that a call brings, now and then one of them too large; those of an image are mostly the present ones, so
 // that it gives back its hall. Any other call is lent the present ones.
 pub fn lent(seed: &mut u64, call: u64, n: u64, present: [u32; STOPS]) -> [u32; STOPS] {
     if !brings(call) {
         return present;
     }
-    if (call == IMAGE_READ) & once_in(seed, 2) {
+    if (call == IMAGE_READ) & (0 < draw(seed, 3)) {
         return present;
     }
     let mut passing = drawn(seed, n);
@@ -93,34 +95,60 @@ pub fn lent(seed: &mut u64, call: u64, n: u64, present: [u32; STOPS]) -> [u32; S
     passing
 }
 
-// The cost c of a link where every stop takes p to pass, which is 1 or 2: with these costs those routes tie that did with the others
-// and no passing times. A large cost stays.
-pub fn stretched(c: u64, p: u64) -> u64 {
-    if c == 0 {
+// How long it takes to pass all stops between two.
+fn between(passing: &[u32; STOPS], u: u64, v: u64) -> u64 {
+    let mut sum = 0u64;
+    for k in 0..STOPS {
+        if (u < k as u64) & ((k as u64) < v) {
+            sum = wrapping_add_u64(sum, at(passing, k));
+        }
+    }
+    sum
+}
+
+// The cost of a link from u to v that takes as long as links of 1 over the stops between; where that is no cost, their distance.
+fn tie(passing: &[u32; STOPS], u: u64, v: u64) -> u64 {
+    let cost = wrapping_add_u64(apart(u, v), between(passing, u, v));
+    if 65535 < cost { apart(u, v) } else { cost }
+}
+
+// Such a cost at one place of a table.
+fn tie_at(passing: &[u32; STOPS], n: u64, i: usize) -> u64 {
+    if n == 0 {
         return 0;
     }
-    if 7 < c {
-        return c;
-    }
-    match p {
-        1 => 2 * c - 1,
-        2 => 3 * c - 2,
-        _ => c,
-    }
+    tie(passing, i as u64 / n, i as u64 % n)
 }
 
-fn stretch(n: u64, p: u64, cost: &mut [u32; CELLS]) {
+fn fill_ties(n: u64, passing: &[u32; STOPS], cost: &mut [u32; CELLS]) {
     for i in 0..cells(n) {
-        let c = stretched(at(cost, i), p);
-        put(cost, i, c);
+        put(cost, i, tie_at(passing, n, i));
     }
 }
 
-// Costs that go with passing times: mostly those with which as many routes tie if all stops take as long to pass as the first.
+// The costs with which all routes forward tie.
+pub fn ties(n: u64, passing: &[u32; STOPS]) -> [u32; CELLS] {
+    let mut cost = [0u32; CELLS];
+    fill_ties(n, passing, &mut cost);
+    cost
+}
+
+// Gives the links that cost the distance of their stops the cost of a tie.
+fn stretch(n: u64, passing: &[u32; STOPS], cost: &mut [u32; CELLS]) {
+    let plain = ties(n, &none());
+    let ties = ties(n, passing);
+    for i in 0..cells(n) {
+        if at(cost, i) == at(&plain, i) {
+            put(cost, i, at(&ties, i));
+        }
+    }
+}
+
+// Costs that go with passing times: mostly those with which as many routes tie.
 pub fn matched(seed: &mut u64, n: u64, passing: &[u32; STOPS], cost: [u32; CELLS]) -> [u32; CELLS] {
     let mut next = cost;
-    if 0 < draw(seed, 4) {
-        stretch(n, at(passing, 0), &mut next);
+    if 0 < draw(seed, 12) {
+        stretch(n, passing, &mut next);
     }
     next
 }

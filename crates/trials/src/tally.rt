@@ -15,11 +15,12 @@ use calls::call::LIST_ROUTES;
 use calls::call::MOVE_OVER;
 use calls::call::RAISE;
 use calls::call::WORK_OUT;
+use calls::entries::wide;
 use std::num::wrapping_add_u64;
 use std::num::wrapping_add_usize;
 
-// The refusals 0 to 13 of each call, and behind them the other counts.
-const REFUSALS: usize = 14;
+// The refusals 0 to 14 of each call, and behind them the other counts.
+const REFUSALS: usize = 15;
 
 pub const SEQUENCES: usize = REFUSALS * CALLS;
 
@@ -58,8 +59,8 @@ const PLACES: usize = 33;
 // Accepted lists, not empty, that left the tables as they were.
 pub const UNDONE: usize = REFUSED + PLACES;
 
-// Lists refused with 11 behind their first edit: too many ways in passing.
-const PASSING: usize = UNDONE + 1;
+// Accepted lists with a crowded pair in passing, but neither before nor after.
+pub const PASSING: usize = UNDONE + 1;
 
 // Sequences that start from a moved hall, and those of them with a pair of several ways.
 pub const MOVED: usize = PASSING + 1;
@@ -99,7 +100,7 @@ pub const PASSED_MOVES: usize = UNEVEN + 7;
 
 pub const PASSED_KEPT: usize = UNEVEN + 8;
 
-// Calls that are refused with 11 in such a hall, or would leave one.
+// Accepted calls that leave a crowded pair in such a hall.
 pub const PASSED_CROWDED: usize = UNEVEN + 9;
 
 // Refusals 2 where a passing time is too large too, and 13 where the tables are not right either.
@@ -107,7 +108,33 @@ pub const ODD_AND_BAD: usize = UNEVEN + 10;
 
 pub const BAD_AND_WRONG: usize = UNEVEN + 11;
 
-pub const ROOM: usize = UNEVEN + 12;
+// Accepted calls that leave a hall with a crowded pair.
+pub const CROWDED: usize = UNEVEN + 12;
+
+// Accepted edits with a crowded pair before or after them, those without, and those that made a pair crowded, or uncrowded.
+pub const CROWDED_EDITS: usize = UNEVEN + 13;
+
+pub const UNCROWDED_EDITS: usize = UNEVEN + 14;
+
+pub const MADE: usize = UNEVEN + 15;
+
+pub const UNMADE: usize = UNEVEN + 16;
+
+// Touched rows that look the same before and after.
+pub const ALIKE: usize = UNEVEN + 17;
+
+// Accepted edits with a crowded pair before or after them that the next call reversed.
+pub const REVERSED_CROWDED: usize = UNEVEN + 18;
+
+// Moving calls on right tables with a crowded pair, refused with 3.
+pub const CROWDED_MOVES: usize = UNEVEN + 19;
+
+// Refusals 14 where the buffer is too short too, and 4 where the entry that the stops point at is that of a crowded pair.
+pub const CROWDED_AND_SHORT: usize = UNEVEN + 20;
+
+pub const PAST_CROWDED: usize = UNEVEN + 21;
+
+pub const ROOM: usize = UNEVEN + 22;
 
 pub fn add(tally: &mut [u64; ROOM], i: usize, x: u64) {
     if i < ROOM {
@@ -156,9 +183,6 @@ pub fn add_list(tally: &mut [u64; ROOM], length: usize, answer: Answer) {
     if answer.refusal == 0 {
         add_at(tally, ACCEPTED, length as u64, LENGTHS);
     }
-    if (answer.refusal == 11) & (1 < answer.place) {
-        add(tally, PASSING, 1);
-    }
     if answer.refusal == 12 {
         add_at(tally, TOO_LONG, length as u64, LENGTHS);
     }
@@ -166,7 +190,7 @@ pub fn add_list(tally: &mut [u64; ROOM], length: usize, answer: Answer) {
 
 // Counts a moving call that its ways decide: one that is accepted or refused with 11, or with 3 where they pass the old limit.
 pub fn add_move(tally: &mut [u64; ROOM], most: u64, refusal: u64) {
-    if (refusal == 0) | (refusal == 11) | (refusal == 3) & (OLD_WAYS < most) {
+    if (refusal == 0) | (refusal == 11) | (refusal == 3) & (wide(OLD_WAYS) < most) {
         add_at(tally, MOVES, most, MOST);
     }
 }
@@ -257,7 +281,7 @@ fn counts(name: &[u8], tally: &[u64; ROOM], from: usize, to: usize) {
     io::write_all(1, b"\n");
 }
 
-// Writes a line of the refusals 0 to 13 of a call.
+// Writes a line of the refusals 0 to 14 of a call.
 fn refusals_of(name: &[u8], tally: &[u64; ROOM], call: u64) {
     let start = place(call, 0);
     counts(name, tally, start, wrapping_add_usize(start, REFUSALS));
@@ -281,7 +305,7 @@ fn lists(tally: &[u64; ROOM]) {
         count(tally, UNDONE),
     );
     line(
-        b"lists refused with 11 behind their first edit",
+        b"accepted lists with crowded pairs in passing alone",
         count(tally, PASSING),
     );
     line(b"lists too long, of 33 edits", count(tally, TOO_LONG + 33));
@@ -377,7 +401,7 @@ fn passing(tally: &[u64; ROOM]) {
         count(tally, PASSED_KEPT),
     );
     line(
-        b"refused with 11 and passing times above 0",
+        b"accepted with crowded pairs and passing times above 0",
         count(tally, PASSED_CROWDED),
     );
     line(
@@ -387,6 +411,35 @@ fn passing(tally: &[u64; ROOM]) {
     line(
         b"refused with 13 where 3 would follow",
         count(tally, BAD_AND_WRONG),
+    );
+}
+
+// Writes what crowded pairs did.
+fn crowded(tally: &[u64; ROOM]) {
+    line(b"accepted with crowded pairs", count(tally, CROWDED));
+    line(
+        b"edits with a crowded pair before or after",
+        count(tally, CROWDED_EDITS),
+    );
+    line(b"edits without", count(tally, UNCROWDED_EDITS));
+    line(b"edits that made a pair crowded", count(tally, MADE));
+    line(b"edits that made a pair uncrowded", count(tally, UNMADE));
+    line(b"touched rows that look the same", count(tally, ALIKE));
+    line(
+        b"edits reversed with a crowded pair before or after",
+        count(tally, REVERSED_CROWDED),
+    );
+    line(
+        b"moving calls refused with 3 over a crowded pair",
+        count(tally, CROWDED_MOVES),
+    );
+    line(
+        b"refused with 14 where 10 would follow",
+        count(tally, CROWDED_AND_SHORT),
+    );
+    line(
+        b"refused with 4 where 14 would follow",
+        count(tally, PAST_CROWDED),
     );
 }
 
@@ -421,6 +474,7 @@ pub fn write(tally: &[u64; ROOM]) {
     moves(tally);
     routes(tally);
     passing(tally);
+    crowded(tally);
     line(b"differences", count(tally, DIFFERENCES));
     line(b"first in answer", count(tally, FIRST));
 }

@@ -1,4 +1,4 @@
--- hallscore, whole (document 01, with requests 1, 3 and 7 of document 02): the listing that it prints, for any text. A text is the list of
+-- hallscore, whole (document 01, with requests 1, 3, 7 and 8 of document 02): the listing that it prints, for any text. A text is the list of
 -- its bytes. Assumes nothing.
 use Prim.Native.Nat.{ℕ, zero, suc, _+_, _*_, _-_, _/_, _%_}
 use Prim.Native.Char.{code}
@@ -8,7 +8,7 @@ use mathlib.Core.List.{List, [], _∷_, _++_}
 use lib.Dec.{eqb, ltb, leb}
 use lib.ListN.{length}
 use Rattle.routes.specs.Route.{joinTo, same, score}
-use Rattle.book.specs.Hall.{mostStops, scale, upTo, costsIn, noPassing, noLinks}
+use Rattle.book.specs.Hall.{mostStops, mostWays, scale, upTo, costsIn, noPassing, noLinks}
 use Rattle.book.specs.Call.{edit, number, Answer}
 use Rattle.book.specs.Book.{Book, bookAfter, bookAnswer}
 use Rattle.book.specs.declared.Kind.{Kind}
@@ -147,7 +147,7 @@ emptyBook n = record { stops = n; layout = noLinks n (noPassing n) }
 
 -- the lines from line i on, and then the scores
 unfoldable pub report : ℕ → Book → List (List ℕ) → List ℕ
-report i b [] = joinTo (b .stops) (λ v. stopLine v (score (costsIn (b .stops) (b .layout)) (b .stops) scale v))
+report i b [] = joinTo (b .stops) (λ v. stopLine v (score (costsIn (b .stops) (b .layout)) (b .stops) mostWays scale v))
 report i b (line ∷ rest) = said i b (lineOf (words line)) ++ report (i + 1) (next b (lineOf (words line))) rest
 
 -- the whole: the first line is the hall

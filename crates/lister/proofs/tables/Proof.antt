@@ -7,10 +7,10 @@ use Rattle.lister.proofs.tables.Statement.{statement}
 use Rattle.lister.proofs.tables.Tie as tie
 
 abbrev Inv-loop : tie.InvT-loop
-Inv-loop cost passing n scale time₀ ways₀ share₀ score n' tally₀ s₀ time ways share tally s = (s ≤ n') × (length time ≡ length time₀) × (length ways ≡ length ways₀) × (length share ≡ length share₀) × (drop (n' * n') time ≡ drop (n' * n') time₀) × (drop (n' * n') ways ≡ drop (n' * n') ways₀) × (drop (n' * n') share ≡ drop (n' * n') share₀)
+Inv-loop cost passing n limit scale time₀ ways₀ share₀ score n' tally₀ s₀ time ways share tally s = (s ≤ n') × (length time ≡ length time₀) × (length ways ≡ length ways₀) × (length share ≡ length share₀) × (drop (n' * n') time ≡ drop (n' * n') time₀) × (drop (n' * n') ways ≡ drop (n' * n') ways₀) × (drop (n' * n') share ≡ drop (n' * n') share₀)
 
 abbrev μ-loop : tie.MeasureT-loop
-μ-loop cost passing n scale time₀ ways₀ share₀ score n' tally₀ s₀ time ways share tally s = n' - s
+μ-loop cost passing n limit scale time₀ ways₀ share₀ score n' tally₀ s₀ time ways share tally s = n' - s
 
 loop-again : tie.Need-loop-again Inv-loop μ-loop
 loop-again c =

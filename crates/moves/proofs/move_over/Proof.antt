@@ -1,4 +1,4 @@
--- `move_over`: test 1, the audit by the old numbers with passing times of 0, then 11, then the division.
+-- `move_over`: test 1, the audit by the old numbers with passing times of 0, no entry of ways above the old limit, then 11, then the division.
 use borrow.Author.Needs.{needs}
 use mathlib.Core.Path.{_≡_, sym}
 use native.Mathlib.Omega.{arith}
@@ -10,7 +10,7 @@ use Rattle.routes.proofs.Lists.{take-replicate}
 use Rattle.book.specs.Hall.{mostStops, noPassing}
 use Rattle.book.proofs.Sizes.{stops}
 use Rattle.tables.proofs.Measured.{old-measure}
-use Rattle.moves.proofs.Moving.{Tested, tested, move-sizeless, move-shut, move-crowded, move-accepted}
+use Rattle.moves.proofs.Moving.{Tested, tested, move-sizeless, move-shut, move-bad, move-crowded, move-accepted}
 use Rattle.moves.proofs.move_over.Statement.{statement}
 use Rattle.moves.proofs.move_over.Tie as tie
 
@@ -42,13 +42,20 @@ returns-2 c =
 returns-3 : tie.Need-returns-3
 returns-3 c =
     let if3 : tie.Then3 = search in let within : tie.After-within = search in let if2 : tie.Else2 = search in let passes : tie.After-passes = search in
-    move-crowded _ _ _ _ _ _ (told (search)) (held (passes .passes .ensures) (if2 .if2 .left)) (failed (within .within .ensures) (if3 .if3 .taken))
+    move-bad _ _ _ _ _ _ (told (search)) (held (passes .passes .ensures) (if2 .if2 .left)) (failed (within .within .ensures) (if3 .if3 .taken))
 
 returns-4 : tie.Need-returns-4
 returns-4 c =
+    let if4 : tie.Then4 = search in let within2 : tie.After-within2 = search in
+    let if3 : tie.Else3 = search in let within : tie.After-within = search in let if2 : tie.Else2 = search in let passes : tie.After-passes = search in
+    move-crowded _ _ _ _ _ _ (told (search)) (held (passes .passes .ensures) (if2 .if2 .left)) (held (within .within .ensures) (if3 .if3 .left)) (failed (within2 .within2 .ensures) (if4 .if4 .taken))
+
+returns-5 : tie.Need-returns-5
+returns-5 c =
+    let if4 : tie.Else4 = search in let within2 : tie.After-within2 = search in
     let if3 : tie.Else3 = search in let within : tie.After-within = search in let if2 : tie.Else2 = search in let passes : tie.After-passes = search in
     let scores : tie.After-divide2 = search in let shares : tie.After-divide = search in
-    move-accepted _ _ _ _ _ _ (told (search)) (held (passes .passes .ensures) (if2 .if2 .left)) (held (within .within .ensures) (if3 .if3 .left))
+    move-accepted _ _ _ _ _ _ (told (search)) (held (passes .passes .ensures) (if2 .if2 .left)) (held (within .within .ensures) (if3 .if3 .left)) (held (within2 .within2 .ensures) (if4 .if4 .left))
     (shares .divide .ensures) (scores .divide2 .ensures)
 
 pub move-over-spec : {M : Type 1} → statement M
@@ -57,5 +64,5 @@ move-over-spec =
     (tie.spec
     (λ c κs. search needs) returns (λ c. few (search)) (λ c. sym (length-take-le _ _ (few (search))))
     (λ c κs. old-measure _ (omega arith) (omega arith)) (λ c κs. search needs) (λ c. search needs) (λ c. search needs)
-    returns-2 (λ c κs. search needs) (λ c. search needs) (λ c. search needs) returns-3 (λ c κs. search needs) (λ c κs. search needs)
-    (λ c. search needs) (λ c. search needs) returns-4)
+    returns-2 (λ c κs. search needs) (λ c. search needs) (λ c. search needs) returns-3 (λ c κs. search needs) (λ c. search needs) (λ c. search needs) returns-4
+    (λ c κs. search needs) (λ c κs. search needs) (λ c. search needs) (λ c. search needs) returns-5)

@@ -1,5 +1,5 @@
 -- `stops_in_all`: the loop keeps the sum over the stops so far.
-use Prim.Native.Nat.{_*_, _-_, _≤_}
+use Prim.Native.Nat.{_+_, _*_, _-_, _≤_}
 use mathlib.Core.Path.{_≡_, refl}
 use native.Mathlib.Numerals.{add-one}
 use native.Mathlib.Omega.{arith}
@@ -14,7 +14,7 @@ use Rattle.route_lists.proofs.stops_in_all.Tie as tie
 
 abbrev Inv-loop : tie.InvT-loop
 Inv-loop n s t passing time ways all stops₀ v₀ stops v =
-    (v ≤ n) × (stops ≤ 144 * v) ×
+    (v ≤ n) × (stops ≤ 169 * v) ×
     (stops ≡ sumTo v (λ v. visitingBy (entry n time s v) (onFrom n s t passing time v) (entry n time s t) (entry n ways s v) (entry n ways v t)))
 
 abbrev μ-loop : tie.MeasureT-loop
@@ -25,7 +25,7 @@ unfolding sumTo
 loop-holds c = (omega arith, omega arith, refl)
 
 -- the ways that are read are few
-read-few : (c : tie.After-read-entry4 Inv-loop μ-loop) → let to : tie.After-read-entry3 Inv-loop μ-loop = search in (to .read-entry3 .result ≤ mostWays) × (c .read-entry4 .result ≤ mostWays)
+read-few : (c : tie.After-read-entry4 Inv-loop μ-loop) → let to : tie.After-read-entry3 Inv-loop μ-loop = search in (to .read-entry3 .result ≤ mostWays + 1) × (c .read-entry4 .result ≤ mostWays + 1)
 read-few c =
     let loop-test : tie.In-loop Inv-loop μ-loop = search in let loop : tie.At-loop Inv-loop μ-loop = search in
     let start : tie.Start Inv-loop μ-loop = search in let to : tie.After-read-entry3 Inv-loop μ-loop = search in
@@ -42,7 +42,7 @@ visiting-requires c κs =
     (far .on-from .ensures .1, few, few′)
 
 -- what a turn adds is small
-adds : (c : tie.After-visiting Inv-loop μ-loop) → c .visiting .result ≤ 144
+adds : (c : tie.After-visiting Inv-loop μ-loop) → c .visiting .result ≤ 169
 adds c =
     let near : tie.After-read-entry2 Inv-loop μ-loop = search in let far : tie.After-on-from Inv-loop μ-loop = search in
     let all : tie.After-read-entry Inv-loop μ-loop = search in

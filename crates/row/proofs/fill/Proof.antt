@@ -53,9 +53,9 @@ returns c =
     let clear : tie.After-clear = search in let wipe2 : tie.After-wipe2 = search in
     let wipe : tie.After-wipe = search in let start : tie.Start = search in
     let b = begun _ _ _ _ _ _ _ (start .pre .0 .source) (start .pre .0 .marked) (start .pre .1 .0) (start .pre .1 .1 .0) (wipe .wipe .ensures) (wipe2 .wipe2 .ensures) in
-    filled _ _ _ _ _ _ _ _ _ _ _ _ _ (start .pre .0) (settle .settle .ensures) (accumulate .accumulate .last .1 .1 .1 .1 .1 .1 .0) _
+    filled _ _ _ _ _ _ _ _ _ _ _ _ _ (start .pre .0) (settle .settle .ensures) (accumulate .accumulate .last .1 .1 .1 .1 .1 .1 .0)
     (settle .settle .kept .1 .1 .1 .1 .1 .1 .0 ∙ b .timed) (settle .settle .kept .1 .1 .1 .1 .1 .1 .1 .0 ∙ b .counted) (accumulate .accumulate .kept .1 .1 .1 .1 .1 .1 .0 ∙ clear .clear .ensures .long ∙ start .pre .1 .1 .1) (settle .settle .kept .1 .1 .1 .1 .1 .1 .1 .1 .0 ∙ b .room) (settle .settle .kept .1 .1 .1 .1 .1 .1 .1 .1 .1 .0 ∙ b .queue)
-    (accumulate .accumulate .ensures) (c .crowded .ensures)
+    (accumulate .accumulate .ensures)
 
 pub fill-spec : {M : Type 1} → statement M
 fill-spec =
@@ -64,4 +64,4 @@ fill-spec =
     (λ c κs. search needs) (λ c κs. search needs) (λ c κs. search needs) (λ c. search needs) (λ c. search needs)
     (λ c. search needs) (λ c. search needs) (λ c. search needs) (λ c. search needs) settle-requires
     (λ c. search needs) (λ c. search needs) accumulate-requires (λ c. let start : tie.Start = (let c : tie.After-share = search in search) in omega arith)
-    slice-write-share (λ c κs. search needs) same-length same-length-2 same-length-3 returns)
+    slice-write-share same-length same-length-2 same-length-3 returns)

@@ -30,8 +30,8 @@ sum-scores-requires c κs =
     let fill-rows = (let p : tie.After-fill-rows = search in p .fill-rows) in
     let b = start .pre in
     let l = lengths _ _ (b .lengths) in
-    let w = rows-worked _ _ _ b _ (all-links .ensures) _ _ _ _ (fill-rows .ensures) in
-    (worked-shares _ _ _ _ (w .shares) (hall-measure .fine) (workable-of b), omega (arith, l .scores))
+    let w = rows-worked _ _ _ b _ (all-links .ensures) _ _ _ (fill-rows .ensures) in
+    (worked-shares _ _ _ _ _ (w .shares) (hall-measure .fine) (workable-of b), omega (arith, l .scores))
 
 returns : tie.Need-returns
 returns c =
@@ -39,7 +39,7 @@ returns c =
     let all-links = (let c : tie.After-fill-rows = search in let p : tie.After-all-links = search in p .all-links) in
     let fill-rows = (let p : tie.After-fill-rows = search in p .fill-rows) in
     let sum-scores = (let p : tie.After-sum-scores = search in p .sum-scores) in
-    put-filled _ _ _ (start .pre) _ (all-links .ensures) _ _ _ _ (fill-rows .ensures) _ (sum-scores .ensures)
+    put-filled _ _ _ (start .pre) _ (all-links .ensures) _ _ _ (fill-rows .ensures) _ (sum-scores .ensures)
 
 pub put-rows-spec : {M : Type 1} → statement M
 put-rows-spec =

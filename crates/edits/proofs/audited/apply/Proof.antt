@@ -1,12 +1,11 @@
--- `audited::apply` leaves the tables and the answer of the changed hall, or all as it was and 11. Assumes nothing.
+-- `audited::apply` leaves the tables and the answer of the changed hall. Assumes nothing.
 use mathlib.Core.Path.{refl}
 use native.Mathlib.Omega.{arith}
-use borrow.Author.Tests.{not-true, not-false}
 use borrow.Author.Needs.{needs}
 use Rattle.book.specs.Contract.{tables}
 use Rattle.changes.proofs.Changes.{lengths}
 use Rattle.changes.proofs.Laws.{changes, touched-set}
-use Rattle.changes.proofs.Applying.{shares-applied, not-applied, applied}
+use Rattle.changes.proofs.Applying.{shares-applied, applied}
 use Rattle.edits.proofs.audited.apply.Statement.{statement}
 use Rattle.edits.proofs.audited.apply.Tie as tie
 
@@ -22,51 +21,37 @@ touched-set-requires c κs =
     let h = start .pre .1 .0 in
     (h .most, h .square, h .long, lengths (changes h) .times, h .from, h .to)
 
-try-cost-requires : tie.Need-try-cost-requires
-try-cost-requires c κs =
+set-cost-requires : tie.Need-set-cost-requires
+set-cost-requires c κs =
     let touched : tie.After-touched-set = search in let start : tie.Start = search in
     (start .pre .0, (start .pre .1 .0, touched .touched-set .ensures))
 
-returns : tie.Need-returns
-returns c =
-    let start : tie.Start = (let c : tie.After-try-cost = search in search) in
-    let try-cost = (let p : tie.After-try-cost = search in p .try-cost) in
-    let if1 = (let p : tie.Then1 = search in p .if1) in
-    let a = start .args in
-    let r = c .refused .ensures in
-    let e = try-cost .ensures in
-    rw r
-    (not-applied (a .limit) (a .scale) (a .n) (a .u) (a .v) (a .new) (tables (a .cost .now) (a .passing .now) (a .time .now) (a .ways .now) (a .share .now) (a .score .now)) (start .pre .1 .0) _ _ _ _ _ (e .0) (e .1) (not-true _ (if1 .taken)))
-
 sum-scores-requires : tie.Need-sum-scores-requires
 sum-scores-requires c κs =
-    let start : tie.Start = (let c : tie.After-try-cost = search in search) in
-    let try-cost = (let p : tie.After-try-cost = search in p .try-cost) in
-    let if1 = (let p : tie.Else1 = search in p .if1) in
+    let start : tie.Start = (let c : tie.After-set-cost = search in search) in
+    let set-cost = (let p : tie.After-set-cost = search in p .set-cost) in
     let a = start .args in
-    let e = try-cost .ensures in (
-      shares-applied (a .limit) (a .scale) (a .n) (a .u) (a .v) (a .new) (tables (a .cost .now) (a .passing .now) (a .time .now) (a .ways .now) (a .share .now) (a .score .now)) (start .pre .1 .0) _ _ _ _ _ (e .0) (e .1) (start .pre .0 .fine) (not-false _ (if1 .left)),
+    let e = set-cost .ensures in (
+      shares-applied (a .limit) (a .scale) (a .n) (a .u) (a .v) (a .new) (tables (a .cost .now) (a .passing .now) (a .time .now) (a .ways .now) (a .share .now) (a .score .now)) (start .pre .1 .0) _ _ _ _ (e .0) (e .1) (start .pre .0 .fine),
       omega (arith, start .pre .1 .1),
     )
 
-returns-2 : tie.Need-returns-2
-returns-2 c =
-    let start : tie.Start = (let c : tie.After-try-cost = search in search) in
-    let before = (let c : tie.After-try-cost = search in let p : tie.After-read-entry = search in p .read-entry) in
-    let touched = (let c : tie.After-try-cost = search in let p : tie.After-touched-set = search in p .touched-set) in
-    let try-cost = (let p : tie.After-try-cost = search in p .try-cost) in
-    let if1 = (let p : tie.Else1 = search in p .if1) in
+returns : tie.Need-returns
+returns c =
+    let start : tie.Start = (let c : tie.After-set-cost = search in search) in
+    let before = (let c : tie.After-set-cost = search in let p : tie.After-read-entry = search in p .read-entry) in
+    let touched = (let c : tie.After-set-cost = search in let p : tie.After-touched-set = search in p .touched-set) in
+    let set-cost = (let p : tie.After-set-cost = search in p .set-cost) in
     let sum-scores = (let p : tie.After-sum-scores = search in p .sum-scores) in
     let a = start .args in
     let h = start .pre .1 .0 in
-    let e = try-cost .ensures in
-    applied (a .limit) (a .scale) (a .n) (a .u) (a .v) (a .new) (tables (a .cost .now) (a .passing .now) (a .time .now) (a .ways .now) (a .share .now) (a .score .now)) h _ _ _ _ _ (e .0) (e .1) (not-false _ (if1 .left))
+    let e = set-cost .ensures in
+    applied (a .limit) (a .scale) (a .n) (a .u) (a .v) (a .new) (tables (a .cost .now) (a .passing .now) (a .time .now) (a .ways .now) (a .share .now) (a .score .now)) h _ _ _ _ (e .0) (e .1)
     _ (touched-set h _ (touched .ensures)) _ refl _ (before .ensures) (start .pre .1 .1) _ (sum-scores .ensures)
 
 pub apply-spec : {M : Type 1} → statement M
 apply-spec =
     tie.close
     (tie.spec
-    read-entry-requires touched-set-requires try-cost-requires (λ c κs. search needs) (λ c. search needs)
-    (λ c. search needs) (λ c. search needs) (λ c. search needs) returns sum-scores-requires (λ c. search needs)
-    (λ c. search needs) (λ c. search needs) (λ c. search needs) (λ c. search needs) returns-2)
+    read-entry-requires touched-set-requires set-cost-requires sum-scores-requires (λ c. search needs) (λ c. search needs)
+    (λ c. search needs) (λ c. search needs) (λ c. search needs) returns)

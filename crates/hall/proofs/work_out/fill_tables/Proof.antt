@@ -1,12 +1,11 @@
--- `work_out::fill_tables`: tests 5 and 11, in this order, and the tables.
+-- `work_out::fill_tables`: test 5, and the tables.
 use borrow.Author.Needs.{needs}
 use mathlib.Core.Path.{sym}
 use native.Mathlib.Nat.{le-of-eq}
-use borrow.Author.Tests.{not-true, not-false}
 use Rattle.routes.proofs.Booleans.{failed, held}
 use Rattle.book.proofs.Sizes.{stops, lengths}
 use Rattle.tables.proofs.Measured.{hall-measure}
-use Rattle.hall.proofs.WorkOut.{work-invalid, work-crowded, work-shares, work-accepted}
+use Rattle.hall.proofs.WorkOut.{work-invalid, work-shares, work-accepted}
 use Rattle.hall.proofs.work_out.fill_tables.Statement.{statement}
 use Rattle.hall.proofs.work_out.fill_tables.Tie as tie
 
@@ -24,9 +23,9 @@ fill-all-requires c κs =
 
 sum-scores-requires : tie.Need-sum-scores-requires
 sum-scores-requires c κs =
-    let if2 : tie.Else2 = search in let fill-all : tie.After-fill-all = search in let if1 : tie.Else1 = search in
+    let fill-all : tie.After-fill-all = search in let if1 : tie.Else1 = search in
     let valid : tie.After-valid = search in let start : tie.Start = search in (
-      work-shares _ _ _ _ _ _ _ (start .pre) (held (valid .valid .ensures) (if1 .if1 .left)) (fill-all .fill-all .ensures) (not-false _ (if2 .if2 .left)),
+      work-shares _ _ _ _ _ _ _ (start .pre) (held (valid .valid .ensures) (if1 .if1 .left)) (fill-all .fill-all .ensures),
       le-of-eq (sym (lengths _ _ (start .pre .lengths) .scores)),
     )
 
@@ -34,7 +33,6 @@ pub fill-tables-spec : {M : Type 1} → statement M
 fill-tables-spec =
     tie.close
     (tie.spec
-    valid-requires (λ c. search (needs, failed, work-invalid)) fill-all-requires (λ c. search needs)
-    (λ c. search needs) (λ c. search needs) (λ c. search (needs, not-true, held, work-crowded)) sum-scores-requires
+    valid-requires (λ c. search (needs, failed, work-invalid)) fill-all-requires sum-scores-requires
     (λ c. search needs) (λ c. search needs) (λ c. search needs) (λ c. search needs)
-    (λ c. search (needs, not-false, held, work-accepted)))
+    (λ c. search (needs, held, work-accepted)))

@@ -24,7 +24,7 @@ returns-2 : tie.Need-returns-2
 returns-2 c =
     let store : tie.After-store = search in let if1 : tie.Else1 = search in
     let passes : tie.After-passes = search in let audit : tie.After-audit = search in
-    write-stored (image-writes _ _ _) (audit-passed _ _ (audit .audit .ensures) (held (passes .passes .ensures) (if1 .if1 .left))) refl (store .store .ensures)
+    write-stored (image-writes _ _ _) (audit-passed _ _ (audit .audit .ensures) (held (passes .passes .ensures) (if1 .if1 .left))) refl refl (store .store .ensures)
 
 pub image-write-spec : {M : Type 1} → statement M
 image-write-spec =

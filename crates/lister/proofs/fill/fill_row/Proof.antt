@@ -7,10 +7,10 @@ use Rattle.lister.proofs.fill.fill_row.Statement.{statement}
 use Rattle.lister.proofs.fill.fill_row.Tie as tie
 
 abbrev Inv-loop : tie.InvT-loop
-Inv-loop scale n s tally time₀ ways₀ share₀ t₀ time ways share t = (t ≤ n) × (length time ≡ length time₀) × (length ways ≡ length ways₀) × (length share ≡ length share₀) × (drop (n * n) time ≡ drop (n * n) time₀) × (drop (n * n) ways ≡ drop (n * n) ways₀) × (drop (n * n) share ≡ drop (n * n) share₀)
+Inv-loop limit scale n s tally time₀ ways₀ share₀ t₀ time ways share t = (t ≤ n) × (length time ≡ length time₀) × (length ways ≡ length ways₀) × (length share ≡ length share₀) × (drop (n * n) time ≡ drop (n * n) time₀) × (drop (n * n) ways ≡ drop (n * n) ways₀) × (drop (n * n) share ≡ drop (n * n) share₀)
 
 abbrev μ-loop : tie.MeasureT-loop
-μ-loop scale n s tally time₀ ways₀ share₀ t₀ time ways share t = n - t
+μ-loop limit scale n s tally time₀ ways₀ share₀ t₀ time ways share t = n - t
 
 loop-again : tie.Need-loop-again Inv-loop μ-loop
 loop-again c =
@@ -32,5 +32,6 @@ fill-row-spec =
     tie.close
     (tie.spec
     Inv-loop μ-loop (λ c. search needs) (λ c κs. search needs) (λ c κs. search needs) (λ c κs. search needs)
-    (λ c κs. search needs) (λ c κs. search needs) (λ c κs. search needs) (λ c. search needs) (λ c. search needs)
-    loop-again (λ c. search needs) (λ c. search needs) (λ c. search needs) (λ c. search needs))
+    (λ c κs. search needs) (λ c κs. search needs) (λ c κs. search needs) (λ c κs. search needs)
+    (λ c. search needs) (λ c. search needs) loop-again (λ c. search needs) (λ c. search needs)
+    (λ c. search needs) (λ c. search needs))

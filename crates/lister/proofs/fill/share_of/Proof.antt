@@ -5,10 +5,10 @@ use Rattle.lister.proofs.fill.share_of.Statement.{statement}
 use Rattle.lister.proofs.fill.share_of.Tie as tie
 
 abbrev Inv-loop : tie.InvT-loop
-Inv-loop scale tally n s v sum₀ t₀ sum t = t ≤ n
+Inv-loop limit scale tally n s v sum₀ t₀ sum t = t ≤ n
 
 abbrev μ-loop : tie.MeasureT-loop
-μ-loop scale tally n s v sum₀ t₀ sum t = n - t
+μ-loop limit scale tally n s v sum₀ t₀ sum t = n - t
 
 pub share-of-spec : {M : Type 1} → statement M
 share-of-spec =

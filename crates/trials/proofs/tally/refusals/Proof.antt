@@ -5,10 +5,10 @@ use Rattle.trials.proofs.tally.refusals.Statement.{statement}
 use Rattle.trials.proofs.tally.refusals.Tie as tie
 
 abbrev Inv-loop : tie.InvT-loop
-Inv-loop tally refusal₀ t3 t4 refusal = refusal ≤ 14
+Inv-loop tally refusal₀ t3 t4 refusal = refusal ≤ 15
 
 abbrev μ-loop : tie.MeasureT-loop
-μ-loop tally refusal₀ t3 t4 refusal = 14 - refusal
+μ-loop tally refusal₀ t3 t4 refusal = 15 - refusal
 
 pub refusals-spec : {M : Type 1} → statement M
 refusals-spec =
