@@ -1,5 +1,7 @@
 // Definitions and laws of the hall's calls: see specs/ and proofs/. Here what code and definitions share: the refusals and their
 // numbers, an edit, the answers, and the limits of the hall.
+#![tactic(auto)]
+
 pub mod limits;
 pub mod number_of;
 

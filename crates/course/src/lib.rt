@@ -1,5 +1,7 @@
 // A list of edits on its way: it begins with the tests of the whole list, each edit has its turn in the hall that its predecessors
 // made, and at the end the list is answered, or refused and its tables are put back.
+#![tactic(auto)]
+
 pub mod back;
 pub mod begin;
 pub mod finish;

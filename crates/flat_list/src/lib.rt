@@ -1,4 +1,6 @@
 // A list of edits as numbers, four for each edit: its kind, its two stops and its cost. So the C face lends it.
+#![tactic(auto)]
+
 ghost use Rattle.std.specs.Prelude.{◌≡◌, ◌+◌, ◌*◌, ◌≤◌, length};
 ghost use Rattle.book.specs.Call.{edit_list, Done};
 ghost use Rattle.book.specs.Contract.{found, left, of_list};

@@ -1,5 +1,7 @@
 // The C face of the hall: each call over pointers and lengths, with the documents' number for its refusal.
 // The header is host/hall.h.
+#![tactic(auto)]
+
 ghost use Rattle.std.specs.Prelude.{◌≡◌};
 ghost use Rattle.book.specs.Call.{empty_hall, work_out, audit, move_over, edit, list_routes, image_write, image_read, number, image_check};
 ghost use Rattle.book.specs.Contract.{found_layout, found, left, left_beside, found_unpassed, left_shares};

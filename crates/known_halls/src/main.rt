@@ -1,5 +1,7 @@
 // Runs the hall calls on the known halls of document 01 that no theorem covers, holds what they answer
 // and leave against the slow lister, and writes both.
+#![tactic(auto)]
+
 mod crowded;
 mod line;
 mod listed;

@@ -5,6 +5,8 @@
 //
 // What a hall's own entries hold, which bits of stops a set has, and which routes are written, the
 // contracts leave free: to fix it they would need the definitions of what the lister is held against.
+#![tactic(auto)]
+
 mod fill;
 mod quickest;
 mod route;

@@ -3,6 +3,8 @@
 // of halls whose stops take time to pass, and of halls with crowded pairs. The stored output was worked out apart
 // from the lister: the first two halls, those with passing times and those with crowded pairs by hand, the line by
 // formulas, the last of the four and the routes of all four by listing them in another program.
+#![tactic(auto)]
+
 mod crowded;
 mod passing;
 

@@ -1,4 +1,6 @@
 // hallscore's text in and text out.
+#![tactic(auto)]
+
 use book::limits::Hall;
 use words::read;
 

@@ -1,5 +1,7 @@
 // A list of edits, as one call. The list is a lent slice of structs, so the borrow checker does not cover the function: proofs/edit_list is
 // a walk of its code by hand. All work is in the covered functions of `course`.
+#![tactic(auto)]
+
 ghost use Rattle.book.specs.Call.{edit_list, Done};
 ghost use Rattle.book.specs.Contract.{found, left, of_list};
 

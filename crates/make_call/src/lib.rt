@@ -1,4 +1,6 @@
 // Makes a call, on the parts of tables by value that a hall has.
+#![tactic(auto)]
+
 ghost use Rattle.std.specs.Prelude.{◌≡◌};
 ghost use Rattle.book.specs.Call.{number, image_check};
 ghost use Rattle.make_call.specs.Room.{Room};

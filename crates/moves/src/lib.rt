@@ -1,4 +1,6 @@
 // The moving call: the tables of a hall that was made by the old limit of ways and the old scale become those of the present ones.
+#![tactic(auto)]
+
 ghost use Rattle.std.specs.Prelude.{◌≡◌};
 ghost use Rattle.book.specs.Hall.{divided};
 ghost use Rattle.book.specs.Call.{move_over, Done};

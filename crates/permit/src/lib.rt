@@ -1,4 +1,6 @@
 // The tests of an edit's arguments, 4 to 8, and the cost that it sets.
+#![tactic(auto)]
+
 ghost use Rattle.std.specs.Prelude.{◌≡◌, ◌*◌, ◌≤◌, length};
 ghost use Rattle.book.specs.Hall.{largest_cost, up_to, valid_pair};
 ghost use Rattle.book.specs.Call.{other_cost_tests, cost_tests, edit_refusal, cost_set};

@@ -1,4 +1,6 @@
 // Printing: each function writes its text from a place on, and gives the place behind it.
+#![tactic(auto)]
+
 ghost use Rattle.std.specs.Prelude.{◌+◌, ◌≤◌, length, ◌++◌};
 ghost use Rattle.book.specs.Contract.{of_edit};
 ghost use Rattle.words.specs.Text.{decimal as Text·decimal, hall_line, edit_line, unread_line, stop_line};

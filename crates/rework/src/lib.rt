@@ -1,4 +1,6 @@
 // Another cost for one link of right tables: the touched rows worked out.
+#![tactic(auto)]
+
 ghost use Rattle.std.specs.Prelude.{◌≡◌, true, false, ℕ, ◌+◌, ◌*◌, ◌<◌, ◌≤◌, length, set as put};
 ghost use Rattle.routes.specs.Route.{has};
 ghost use Rattle.book.specs.Hall.{entry, valid_costs, valid_passing};

@@ -1,4 +1,6 @@
 // The walk over the quickest routes to a stop: go on from a stop, take its next link, go on from there. Each route is stored as it is met.
+#![tactic(auto)]
+
 ghost use Rattle.std.specs.Prelude.{◌≡◌, ◌∷◌, ◌+◌, ◌*◌, ◌^◌, ◌<◌, ◌≤◌, length, take};
 ghost use Rattle.std.proofs.lemmas.List.Edits.{sets};
 ghost use Rattle.book.specs.Hall.{entry};

@@ -65,9 +65,12 @@ module _ (W : Costs) (n s : ℕ) where
   visits-source (start l) = rw (eq-eqb s s refl)
   visits-source (step {t} {u} {r} l k v R) = rw (visits-source R) (or-true (eqb s t))
 
+  source-only-at : {t : ℕ} {r : List ℕ} → Route W n s (t ∷ r) → t ≡ s → r ≡ []
+  source-only-at (start l) e = refl
+  source-only-at (step {t} {u} {r} l k v R) e = absurd (both (visits-source R) (sym (ap (λ x. visits x (u ∷ r)) e) ∙ v))
+
   pub source-only : {r : List ℕ} → Route W n s (s ∷ r) → r ≡ []
-  source-only (start l) = refl
-  source-only (step l k v R) = absurd (both (visits-source R) v)
+  source-only R = source-only-at R refl
 
   -- and one with a link ends at another stop
   pub source-apart : {t u : ℕ} {r : List ℕ} → Route W n s (t ∷ (u ∷ r)) → eqb t s ≡ false

@@ -3,7 +3,7 @@ use Prim.Native.Nat.{ℕ, zero, suc, ◌+◌, ◌*◌, ◌-◌, ◌<◌, ◌≤�
 use native.Mathlib.Nat.{lt_irrefl, add-zero}
 use native.Mathlib.Decide.{ℕ_discrete}
 use native.Mathlib.Omega.{arith}
-use mathlib.Core.Path.{◌≡◌, refl, sym, ◌∙◌, ap}
+use mathlib.Core.Path.{◌≡◌, refl, sym, ◌∙◌, ap, subst}
 use mathlib.Core.Logic.{◌≢◌}
 use mathlib.Core.Bool.{Bool, true, false, cond, ◌&&◌, ◌||◌, and-eq-true_iff, or-true, false≢true}
 use mathlib.Core.List.{List, [], ◌∷◌, ◌++◌, append_assoc, reverse, reverse-cons}
@@ -226,7 +226,7 @@ module _
   unfolding uses
   goes_on = up-ind {P = λ u. (x : List ℕ) → Route W n s (u ∷ x) → time W (u ∷ x) ≡ least_time W n s u → near u + far u ≡ near t → far u ≢ mark → GoesOn (u ∷ x)} (λ x. least_time W n x t) n
       (λ u l on x R e b f. elim (ℕ_discrete u t) [
-        | yes p ↦ (x, rw (← p) R, rw (← p) e, λ a b h. rw (← p) h)
+        | yes p ↦ (x, rw (← p) R, rw (← p) e, λ a b h. subst (λ z. uses a b (z ∷ x) ≡ true) p h)
         | no p ↦
             let (_, P, g) = route-at W n u t end (λ z. f (fars u l ∙ z)) in
             let (y, m, k, h) = first-link l P g (λ z. p (sym z)) in

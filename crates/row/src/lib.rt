@@ -1,6 +1,8 @@
 // One source's row of a hall: the least time, the ways and the share of every stop.
 // Links are those of the masks: `out[u]` has bit t where the link u to t counts.
 // To pass the stop u, strictly between its ends, a route takes `passing[u]`.
+#![tactic(auto)]
+
 mod push;
 mod settle;
 

@@ -1,4 +1,6 @@
 // Says whether lent parts are the row of one source: by local equations, with no order and no work done again.
+#![tactic(auto)]
+
 mod flows;
 mod handed;
 mod tests;

@@ -1,4 +1,6 @@
 // Which sources an edit touches, by one comparison a source on the times before it, and which links their rows need.
+#![tactic(auto)]
+
 ghost use Rattle.std.specs.Prelude.{◌≡◌, false, ◌*◌, ◌<◌, ◌≤◌, length};
 ghost use Rattle.routes.specs.Route.{set_of};
 ghost use Rattle.links.specs.Promise.{stay};

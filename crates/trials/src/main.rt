@@ -1,6 +1,8 @@
 // Sequences of calls at random on halls of one to seven stops, from an empty hall or a moved one. Each
 // answer, each table and each buffer is held against a book of links and passing times, the documents'
 // rules of refusal and the slow lister.
+#![tactic(auto)]
+
 mod chance;
 mod choose;
 mod compare;
