@@ -6,7 +6,7 @@ pub mod limits;
 pub mod number_of;
 
 // The answers of a call: the documents' fourteen refusals, and acceptance. specs/Call.antt has their numbers.
-#[derive(Drop)]
+#[derive(Clone, Copy)]
 pub enum Refusal {
     Accepted,
     BadSize,
@@ -26,7 +26,7 @@ pub enum Refusal {
 }
 
 // The kinds of edit of a link.
-#[derive(Drop)]
+#[derive(Clone, Copy)]
 pub enum Kind {
     Insert,
     Cheapen,
@@ -35,7 +35,7 @@ pub enum Kind {
 }
 
 // An edit of the link u to v. A delete's cost is not read.
-#[derive(Drop)]
+#[derive(Clone, Copy)]
 pub struct Edit {
     pub kind: Kind,
     pub u: u64,
@@ -45,7 +45,7 @@ pub struct Edit {
 
 // The answer of an edit: the set of touched sources, bit s for source s, their number, and what the link cost before, 0
 // where there was none or the edit was refused.
-#[derive(Drop)]
+#[derive(Clone, Copy)]
 pub struct EditAnswer {
     pub refusal: Refusal,
     pub touched: u64,
@@ -55,7 +55,7 @@ pub struct EditAnswer {
 
 // The answer of a list of edits: the place of the first refused edit, counted from 1, 0 where none was refused; the set of
 // the sources that some edit touched, and their number.
-#[derive(Drop)]
+#[derive(Clone, Copy)]
 pub struct ListAnswer {
     pub refusal: Refusal,
     pub place: u32,
@@ -64,7 +64,7 @@ pub struct ListAnswer {
 }
 
 // The answer of a route list or an image write, beside the buffer: the length of what was written.
-#[derive(Drop)]
+#[derive(Clone, Copy)]
 pub struct WriteAnswer {
     pub refusal: Refusal,
     pub length: usize,

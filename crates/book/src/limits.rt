@@ -4,7 +4,7 @@ ghost use Rattle.routes.specs.Route.{mark};
 ghost use Rattle.book.specs.Hall.{most_stops, largest_cost, largest_passing, most_ways, most_edits, scale, old_most_ways, old_scale, old_per_new, up_to};
 
 // The hall as the holder of its limits; its contents lie in lent tables.
-#[derive(Drop)]
+#[derive(Clone, Copy)]
 pub struct Hall {}
 
 impl Hall {
@@ -45,14 +45,14 @@ impl Hall {
 
 // The limits of the code are those of the definitions.
 pub fn limits_agree()
-    ensures* stops { do ⌜ (← (⟦Hall::STOPS⟧).entry) ≡ most_stops ⌝ }
-    ensures* cost { do ⌜ (← (⟦Hall::LARGEST_COST⟧).entry) ≡ largest_cost ⌝ }
-    ensures* passing { do ⌜ (← (⟦Hall::LARGEST_PASSING⟧).entry) ≡ largest_passing ⌝ }
-    ensures* ways { do ⌜ (← (⟦Hall::WAYS⟧).entry) ≡ most_ways ⌝ }
-    ensures* edits { do ⌜ (← (⟦Hall::EDITS⟧).entry) ≡ most_edits ⌝ }
-    ensures* mark { do ⌜ (← (⟦Hall::MARK⟧).entry) ≡ mark ⌝ }
-    ensures* scale { do ⌜ (← (⟦Hall::SCALE⟧).entry) ≡ scale ⌝ }
-    ensures* old_ways { do ⌜ (← (⟦Hall::OLD_WAYS⟧).entry) ≡ old_most_ways ⌝ }
-    ensures* old_scale { do ⌜ (← (⟦Hall::OLD_SCALE⟧).entry) ≡ old_scale ⌝ }
-    ensures* old_per_new { do ⌜ (← (⟦Hall::OLD_PER_NEW⟧).entry) ≡ old_per_new ⌝ }
+    ensures stops { Hall.STOPS ≡ most_stops }
+    ensures cost { Hall.LARGEST_COST ≡ largest_cost }
+    ensures passing { Hall.LARGEST_PASSING ≡ largest_passing }
+    ensures ways { Hall.WAYS ≡ most_ways }
+    ensures edits { Hall.EDITS ≡ most_edits }
+    ensures mark { Hall.MARK ≡ mark }
+    ensures scale { Hall.SCALE ≡ scale }
+    ensures old_ways { Hall.OLD_WAYS ≡ old_most_ways }
+    ensures old_scale { Hall.OLD_SCALE ≡ old_scale }
+    ensures old_per_new { Hall.OLD_PER_NEW ≡ old_per_new }
 {}
