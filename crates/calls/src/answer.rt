@@ -7,7 +7,7 @@ use book::{EditAnswer, ListAnswer, Refusal, WriteAnswer};
 
 // The refusal; of an edit or a list of edits the set of touched sources and their number; of an edit the cost before; of a
 // list the place of the refused edit; of an image write and a route list the length.
-#[derive(Drop)]
+#[derive(Clone, Copy)]
 pub struct Answer {
     pub refusal: u64,
     pub touched: u64,

@@ -35,7 +35,7 @@ pub const IMAGE_CHECK: u64 = 12;
 pub const CALLS: usize = 13;
 
 // Only an edit and a route list read u and v, and only an edit that is no delete the cost.
-#[derive(Drop)]
+#[derive(Clone, Copy)]
 pub struct Call {
     pub number: u64,
     pub n: u64,

@@ -11,7 +11,7 @@ pub const EDITS: usize = 34;
 
 pub const NUMBERS: usize = 136;
 
-#[derive(Drop)]
+#[derive(Clone, Copy)]
 pub struct List {
     pub length: usize,
     pub numbers: [u64; NUMBERS],

@@ -8,7 +8,7 @@ pub const CELLS: usize = 4225;
 
 pub const STOPS: usize = 65;
 
-#[derive(Drop)]
+#[derive(Clone, Copy)]
 pub struct Tables {
     pub cost: [u32; CELLS],
     pub passing: [u32; STOPS],
