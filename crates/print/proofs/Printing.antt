@@ -2,12 +2,12 @@
 use Prim.Native.Nat.{ℕ, zero, suc, ◌+◌, ◌-◌, ◌/◌, ◌%◌, ◌^◌, ◌<◌, ◌≤◌}
 use mathlib.Core.Path.{◌≡◌, refl, ◌∙◌, ap}
 use mathlib.Core.Bool.{Bool, true, false, cond}
-use mathlib.Core.List.{List, [], ◌∷◌, ◌++◌, append-nil, append_assoc}
-use native.Mathlib.Nat.{pow-suc, le_of_eq}
+use mathlib.Core.List.{List, [], ◌∷◌, ◌++◌, append_assoc}
+use native.Mathlib.Nat.{pow-suc}
 use native.Mathlib.Omega.{arith}
 use lib.Dec.{ltb}
-use lib.ListN.{length, set, take, drop, length-append, length-drop, drop_of_length-le}
-use lib.Seq.{sets, length-sets, sets-eq, take_all, drop-drop}
+use lib.ListN.{length, drop, length-append}
+use lib.Seq.{sets, length-sets, sets-eq}
 use borrow.Rule.Slice.PartMut.{post_of, put_mid, Post-is}
 use borrow.Author.Tests.{ltb-false, lt-ltb, le-ltb}
 use Rattle.routes.proofs.Stored.{sets-append}
@@ -22,14 +22,11 @@ then {s} {t} {out} {out'} {out''} {at} {mid} {end} p q = record {
   inside = omega (arith, q.inside, ap length p.written, length-sets out at s);
 }
 
--- a text copied to the front of what lies behind a place
-pub copied : (text out : List ℕ) (at : ℕ) → at + length text ≤ length out →
-    put_mid at (length out - at) out (take (length text) text ++ drop (length text) (take (length out - at) (drop at out))) ≡ sets out at text
+-- a text copied over as many bytes behind a place
+pub copied : (text out : List ℕ) (at : ℕ) → at + length text ≤ length out → put_mid at (at + length text - at) out text ≡ sets out at text
 copied text out at h =
-    let none : post_of at (length out - at) out ≡ [] = Post-is at (length out) out (omega arith) ∙ drop_of_length-le out {i = length out} (le_of_eq refl) in
-    let whole = take_all (length text) text (le_of_eq refl) in
-    let rest = take_all (length out - at) (drop at out) (le_of_eq (length-drop at out)) in
-    simp (whole, rest, none, append-nil, drop-drop, append_assoc, sets-eq text out at h)
+    let rest : post_of at (at + length text - at) out ≡ drop (at + length text) out = Post-is at (at + length text) out (omega arith) in
+    simp (rest, append_assoc, sets-eq text out at h)
 
 -- room for a text is room for its first part and, once that is printed, for the rest
 pub first_fits : (s t : List ℕ) (at room : ℕ) → at + length (s ++ t) ≤ room → at + length s ≤ room

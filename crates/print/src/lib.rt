@@ -9,14 +9,15 @@ ghost use Rattle.print.specs.Promise.{Printed};
 use book::EditAnswer;
 use book::limits::Hall;
 use book::number_of::number_of;
-use bytes::copy;
 
 // A text.
 pub fn put(text: &[u8], out: &mut [u8], at: usize) -> usize
     requires { at + length text.now ≤ length out.old }
     ensures { Printed text.now at out.old result out.new }
 {
-    at + copy(text, &mut out[at..])
+    let end = at + text.len();
+    out[at..end].copy_from_slice(text);
+    end
 }
 
 // A number.

@@ -11,52 +11,55 @@ use native.Mathlib.Omega.{arith}
 use lib.Dec.{eqb, leb}
 use lib.ListN.{length, get_or, take, drop, length-drop, drop_of_length-le}
 use lib.Seq.{drop-cons, drop-drop, take_all}
-use Rattle.bytes.specs.Bytes.{slice, index_after, index_of}
+use Rattle.words.specs.Scan.{index_of}
 use Rattle.words.specs.Text.{before, parts, lines, words, digits, value_from}
 
 module _ (d : ℕ) where
-  -- in the whole of a text
-  pub index-whole : (text : List ℕ) → 0 + index_of d (slice 0 (length text) text) ≡ index_of d text
-  unfolding slice
-  index-whole text = rw (take_all (length text) text (le_of_eq refl)) (omega arith)
+  -- the place of the first byte d: here, or as far on as in the rest
+  index-here : (x : ℕ) (text : List ℕ) → eqb x d ≡ true → index_of d (x ∷ text) ≡ 0
+  unfolding index_of
+  index-here x text e = rw e
+
+  index-next : (x : ℕ) (text : List ℕ) → eqb x d ≡ false → index_of d (x ∷ text) ≡ suc (index_of d text)
+  unfolding index_of
+  index-next x text e = rw e (omega arith)
 
   pub index-within : (text : List ℕ) → index_of d text ≤ length text
-  unfolding index_of index_after
+  unfolding index_of
   index-within [] = omega arith
-  index-within (x ∷ text) = go (eqb x d) (index-within text)
+  index-within (x ∷ text) = go (eqb x d) refl (index-within text)
     where
-      go : (b : Bool) → index_of d text ≤ length text → index_after b (index_of d text) ≤ suc (length text)
-      go true h = omega arith
-      go false h = omega arith
+      go : (b : Bool) → eqb x d ≡ b → index_of d text ≤ length text → index_of d (x ∷ text) ≤ suc (length text)
+      go true e h = omega (arith, index-here x text e)
+      go false e h = omega (arith, index-next x text e)
 
   -- a text with a byte d: its first part ends there
   pub parts_first : (last : List (List ℕ)) (text : List ℕ) → index_of d text < length text →
       parts d last text ≡ take (index_of d text) text ∷ parts d last (drop (suc (index_of d text)) text)
-  unfolding index_of index_after parts before
+  unfolding parts before
   parts_first last [] h = absurd (omega arith)
   parts_first last (x ∷ text) h = go (eqb x d) refl (parts_first last text)
     where
       go : (b : Bool) → eqb x d ≡ b → (index_of d text < length text → parts d last text ≡ take (index_of d text) text ∷ parts d last (drop (suc (index_of d text)) text)) →
           parts d last (x ∷ text) ≡ take (index_of d (x ∷ text)) (x ∷ text) ∷ parts d last (drop (suc (index_of d (x ∷ text))) (x ∷ text))
-      go true e more = rw e
-      go false e more = rw (e, more (omega (arith, rw e at h)))
+      go true e more = rw (e, index-here x text e)
+      go false e more = rw (e, index-next x text e, more (omega (arith, index-next x text e)))
 
   -- a text without one is one part, if it is not empty
   index-later : (x : ℕ) (text : List ℕ) → 0 < index_of d (x ∷ text) → eqb x d ≡ false
-  unfolding index_of index_after
-  index-later x text h = go (eqb x d) h
+  index-later x text h = go (eqb x d) refl
     where
-      go : (b : Bool) → 0 < index_after b (index_of d text) → b ≡ false
-      go true h = absurd (omega arith)
-      go false h = refl
+      go : (b : Bool) → eqb x d ≡ b → eqb x d ≡ false
+      go true e = absurd (omega (arith, index-here x text e))
+      go false e = e
 
   parts_whole : (last : List (List ℕ)) → ((y : ℕ) → before y last ≡ (y ∷ []) ∷ []) → (x : ℕ) (text : List ℕ) → length (x ∷ text) ≤ index_of d (x ∷ text) →
       parts d last (x ∷ text) ≡ (x ∷ text) ∷ []
-  unfolding index_of index_after parts before
+  unfolding parts before
   parts_whole last one x [] h = rw (index-later x [] (omega arith)) (one x)
   parts_whole last one x (y ∷ text) h =
       let e : eqb x d ≡ false = index-later x (y ∷ text) (omega arith) in
-      rw e (ap (before x) (parts_whole last one y text (omega (arith, rw e at h))))
+      rw e (ap (before x) (parts_whole last one y text (omega (arith, index-next x (y ∷ text) e))))
 
 -- the part of a list from place k on
 abbrev pub from : ℕ → List ℕ → List ℕ

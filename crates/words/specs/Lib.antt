@@ -1,2 +1,3 @@
 -- The definition of hallscore's text.
+pub mod Scan
 pub mod Text

@@ -1,18 +1,22 @@
 // A text in parts: where a part ends, and what its words say.
 ghost use Rattle.std.specs.Prelude.{◌≡◌, cond, [], ◌∷◌};
-ghost use Rattle.bytes.specs.Bytes.{index_of};
+ghost use Rattle.words.specs.Scan.{index_of};
 ghost use Rattle.routes.specs.Route.{same as Route·same};
 ghost use Rattle.words.specs.Text.{words, number_of, hall_of, costly_kind, plain_kind, edit_of, line_of};
 
 use crate::{Line, Named, Number};
 use book::{Edit, Kind};
-use bytes::scan::find;
 
 // Where the first byte d of a text stands, or the text's length.
 pub fn index_of(text: &[u8], d: u8) -> usize
     ensures { result ≡ index_of d text.now }
 {
-    find(text, 0, text.len(), d)
+    for (i, x) in text.iter().enumerate() {
+        if *x == d {
+            return i;
+        }
+    }
+    text.len()
 }
 
 // Whether two words are the same.
