@@ -1,5 +1,6 @@
 // Halls with crowded pairs: more ways than the limit.
 use super::{OLD_LIMIT, OLD_SCALE, SCALE, hall, line, listed, ties};
+use std::io;
 
 // No pair has more ways.
 const NO_LIMIT: u32 = 4294967295;
@@ -37,28 +38,28 @@ fn forward() -> [u32; 36] {
 }
 
 // The first rows of the tables of 13 ways, by the limit of today and by the old one, which they do not pass.
-fn thirteen(none: &[u32]) {
-    hall(&fan(), none, 15, 15);
-    listed(&fan(), none, 15, OLD_LIMIT, OLD_SCALE, 15);
+fn thirteen(rt: &impl Print, none: &[u32]) -> io::Result<()> {
+    hall(rt, &fan(), none, 15, 15)?;
+    listed(rt, &fan(), none, 15, OLD_LIMIT, OLD_SCALE, 15)
 }
 
 // The link from 0 to 5 closes. From 0 this takes one of 16 ways: the pair stays crowded, and the tables stay.
-fn closed(none: &[u32]) {
+fn closed(rt: &impl Print, none: &[u32]) -> io::Result<()> {
     let before = forward();
     let mut after = forward();
     after[5] = 0;
     let set = lister::touched(&before, &after, none, 6, 0, 5);
     let answer = [set, lister::number(set)];
-    line(b"touched", &answer, 2);
-    hall(&after, none, 6, 36);
+    line(rt, "touched", &answer, 2)?;
+    hall(rt, &after, none, 6, 36)
 }
 
 // By a limit of 1 the hall of ties has crowded pairs from 0 and from 2; with no limit none is crowded.
-pub fn tries() {
+pub fn tries(rt: &impl Print) -> io::Result<()> {
     let none: &[u32] = &[0; 15];
-    thirteen(none);
-    hall(&forward(), none, 6, 36);
-    closed(none);
-    listed(&forward(), none, 6, NO_LIMIT, SCALE, 36);
-    listed(&ties(), none, 5, 1, SCALE, 25);
+    thirteen(rt, none)?;
+    hall(rt, &forward(), none, 6, 36)?;
+    closed(rt, none)?;
+    listed(rt, &forward(), none, 6, NO_LIMIT, SCALE, 36)?;
+    listed(rt, &ties(), none, 5, 1, SCALE, 25)
 }

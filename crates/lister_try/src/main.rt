@@ -10,6 +10,8 @@ mod passing;
 
 ghost use Rattle.std.specs.Prelude.{◌<◌};
 
+use std::io;
+
 // The most ways of a pair that is not crowded and what a whole share counts, and both before.
 const LIMIT: u32 = 12;
 
@@ -20,13 +22,12 @@ const OLD_LIMIT: u32 = 22;
 const OLD_SCALE: u32 = 232792560;
 
 // Writes a line: a name and the first `count` numbers of a table.
-fn line(name: &[u8], table: &[u64], count: usize) {
-    io::write_all(1, name);
+fn line(rt: &impl Print, name: &str, table: &[u64], count: usize) -> io::Result<()> {
+    print!(rt; "{name}")?;
     for i in 0..count {
-        io::write_all(1, b" ");
-        io::print_decimal(1, at(table, i));
+        print!(rt; " {}", at(table, i))?;
     }
-    io::write_all(1, b"\n");
+    println!(rt;)
 }
 
 fn at(table: &[u64], i: usize) -> u64 {
@@ -34,7 +35,15 @@ fn at(table: &[u64], i: usize) -> u64 {
 }
 
 // Writes the first entries of three tables of a hall of at most fifteen stops, by a limit and a scale, and its scores.
-fn listed(cost: &[u32], passing: &[u32], n: u64, limit: u32, scale: u32, entries: usize) {
+fn listed(
+    rt: &impl Print,
+    cost: &[u32],
+    passing: &[u32],
+    n: u64,
+    limit: u32,
+    scale: u32,
+    entries: usize,
+) -> io::Result<()> {
     let mut time = [0u64; 225];
     let mut ways = [0u64; 225];
     let mut share = [0u64; 225];
@@ -42,15 +51,15 @@ fn listed(cost: &[u32], passing: &[u32], n: u64, limit: u32, scale: u32, entries
     lister::tables(
         cost, passing, n, limit, scale, &mut time, &mut ways, &mut share, &mut score,
     );
-    line(b"time", &time, entries);
-    line(b"ways", &ways, entries);
-    line(b"share", &share, entries);
-    line(b"score", &score, n as usize);
+    line(rt, "time", &time, entries)?;
+    line(rt, "ways", &ways, entries)?;
+    line(rt, "share", &share, entries)?;
+    line(rt, "score", &score, n as usize)
 }
 
 // By the numbers of today.
-fn hall(cost: &[u32], passing: &[u32], n: u64, entries: usize) {
-    listed(cost, passing, n, LIMIT, SCALE, entries);
+fn hall(rt: &impl Print, cost: &[u32], passing: &[u32], n: u64, entries: usize) -> io::Result<()> {
+    listed(rt, cost, passing, n, LIMIT, SCALE, entries)
 }
 
 fn byte_at(bytes: &[u8], i: usize) -> u64 {
@@ -62,44 +71,52 @@ fn wide(x: u8) -> u64 {
 }
 
 // Writes a line: two stops, and the bytes that the lister wrote of the quickest routes between them.
-fn routes(cost: &[u32], passing: &[u32], n: u64, s: u64, t: u64, buffer: &mut [u8]) {
+fn routes(
+    rt: &impl Print,
+    cost: &[u32],
+    passing: &[u32],
+    n: u64,
+    s: u64,
+    t: u64,
+    buffer: &mut [u8],
+) -> io::Result<()> {
     let length = lister::routes(cost, passing, n, s, t, buffer);
-    io::write_all(1, b"routes ");
-    io::print_decimal(1, s);
-    io::write_all(1, b" ");
-    io::print_decimal(1, t);
-    io::write_all(1, b":");
+    print!(rt; "routes {s} {t}:")?;
     for i in 0..length {
-        io::write_all(1, b" ");
-        io::print_decimal(1, byte_at(buffer, i));
+        print!(rt; " {}", byte_at(buffer, i))?;
     }
-    io::write_all(1, b"\n");
+    println!(rt;)
 }
 
 // In the hall of two ways from 0 to 3; stop 4 is none of its stops.
-fn diamond_routes(cost: &[u32], none: &[u32], buffer: &mut [u8]) {
-    routes(cost, none, 4, 0, 3, buffer);
-    routes(cost, none, 4, 1, 3, buffer);
-    routes(cost, none, 4, 2, 2, buffer);
-    routes(cost, none, 4, 3, 0, buffer);
-    routes(cost, none, 4, 0, 4, buffer);
-    routes(cost, none, 4, 4, 4, buffer);
+fn diamond_routes(
+    rt: &impl Print,
+    cost: &[u32],
+    none: &[u32],
+    buffer: &mut [u8],
+) -> io::Result<()> {
+    routes(rt, cost, none, 4, 0, 3, buffer)?;
+    routes(rt, cost, none, 4, 1, 3, buffer)?;
+    routes(rt, cost, none, 4, 2, 2, buffer)?;
+    routes(rt, cost, none, 4, 3, 0, buffer)?;
+    routes(rt, cost, none, 4, 0, 4, buffer)?;
+    routes(rt, cost, none, 4, 4, 4, buffer)
 }
 
 // The same list in buffers of eight bytes and of none: it is cut off.
-fn cut_off(cost: &[u32], none: &[u32]) {
+fn cut_off(rt: &impl Print, cost: &[u32], none: &[u32]) -> io::Result<()> {
     let mut bytes = [0u8; 8];
     let buffer: &mut [u8] = &mut bytes;
-    routes(cost, none, 4, 0, 3, buffer);
-    routes(cost, none, 4, 0, 3, &mut buffer[0..0]);
+    routes(rt, cost, none, 4, 0, 3, buffer)?;
+    routes(rt, cost, none, 4, 0, 3, &mut buffer[0..0])
 }
 
 // In the hall of ties, where routes of different lengths take the same time.
-fn tied_routes(cost: &[u32], none: &[u32], buffer: &mut [u8]) {
-    routes(cost, none, 5, 0, 1, buffer);
-    routes(cost, none, 5, 0, 3, buffer);
-    routes(cost, none, 5, 0, 4, buffer);
-    routes(cost, none, 5, 4, 0, buffer);
+fn tied_routes(rt: &impl Print, cost: &[u32], none: &[u32], buffer: &mut [u8]) -> io::Result<()> {
+    routes(rt, cost, none, 5, 0, 1, buffer)?;
+    routes(rt, cost, none, 5, 0, 3, buffer)?;
+    routes(rt, cost, none, 5, 0, 4, buffer)?;
+    routes(rt, cost, none, 5, 4, 0, buffer)
 }
 
 fn put(table: &mut [u32], i: usize, c: u32) {
@@ -116,7 +133,15 @@ fn copy(from: &[u32], to: &mut [u32]) {
 
 // Gives the link from u to v of a hall of four stops the cost c, and writes the set of the sources
 // that this touches, and their number. `before` is left as the former cost table.
-fn edit(before: &mut [u32], cost: &mut [u32], passing: &[u32], u: usize, v: usize, c: u32)
+fn edit(
+    rt: &impl Print,
+    before: &mut [u32],
+    cost: &mut [u32],
+    passing: &[u32],
+    u: usize,
+    v: usize,
+    c: u32,
+) -> io::Result<()>
     requires u_bound { u < 4 }
     requires v_bound { v < 4 }
 {
@@ -124,7 +149,7 @@ fn edit(before: &mut [u32], cost: &mut [u32], passing: &[u32], u: usize, v: usiz
     put(cost, u * 4 + v, c);
     let set = lister::touched(before, cost, passing, 4, u as u64, v as u64);
     let answer = [set, lister::number(set)];
-    line(b"touched", &answer, 2);
+    line(rt, "touched", &answer, 2)
 }
 
 // A hall of five stops with pairs of several ways and unreachable ones.
@@ -164,7 +189,7 @@ fn most_ways() -> [u32; 36] {
     cost
 }
 
-fn main() {
+fn main(rt: HostRuntime) -> io::Result<()> {
     let mut former = [0u32; 16];
     let mut present = [0u32; 16];
     let before: &mut [u32] = &mut former;
@@ -172,27 +197,27 @@ fn main() {
     let mut bytes = [0u8; 65];
     let buffer: &mut [u8] = &mut bytes;
     let none: &[u32] = &[0; 10];
-    edit(before, diamond, none, 0, 1, 5);
-    edit(before, diamond, none, 0, 2, 5);
-    edit(before, diamond, none, 1, 3, 5);
-    edit(before, diamond, none, 2, 3, 5);
-    hall(diamond, none, 4, 16);
-    diamond_routes(diamond, none, buffer);
-    cut_off(diamond, none);
-    edit(before, diamond, none, 2, 3, 4);
-    hall(diamond, none, 4, 16);
-    routes(diamond, none, 4, 0, 3, buffer);
-    edit(before, diamond, none, 2, 3, 0);
-    hall(diamond, none, 4, 16);
-    hall(&ties(), none, 5, 25);
-    hall(&line_of_ten(), none, 10, 100);
-    hall(&most_ways(), none, 6, 36);
-    listed(&ties(), none, 5, OLD_LIMIT, OLD_SCALE, 25);
-    tied_routes(&ties(), none, buffer);
-    routes(&line_of_ten(), none, 10, 0, 9, buffer);
-    routes(&line_of_ten(), none, 10, 1, 9, buffer);
-    routes(&most_ways(), none, 6, 0, 5, buffer);
-    routes(&most_ways(), none, 6, 1, 4, buffer);
-    passing::tries(buffer);
-    crowded::tries();
+    edit(&rt, before, diamond, none, 0, 1, 5)?;
+    edit(&rt, before, diamond, none, 0, 2, 5)?;
+    edit(&rt, before, diamond, none, 1, 3, 5)?;
+    edit(&rt, before, diamond, none, 2, 3, 5)?;
+    hall(&rt, diamond, none, 4, 16)?;
+    diamond_routes(&rt, diamond, none, buffer)?;
+    cut_off(&rt, diamond, none)?;
+    edit(&rt, before, diamond, none, 2, 3, 4)?;
+    hall(&rt, diamond, none, 4, 16)?;
+    routes(&rt, diamond, none, 4, 0, 3, buffer)?;
+    edit(&rt, before, diamond, none, 2, 3, 0)?;
+    hall(&rt, diamond, none, 4, 16)?;
+    hall(&rt, &ties(), none, 5, 25)?;
+    hall(&rt, &line_of_ten(), none, 10, 100)?;
+    hall(&rt, &most_ways(), none, 6, 36)?;
+    listed(&rt, &ties(), none, 5, OLD_LIMIT, OLD_SCALE, 25)?;
+    tied_routes(&rt, &ties(), none, buffer)?;
+    routes(&rt, &line_of_ten(), none, 10, 0, 9, buffer)?;
+    routes(&rt, &line_of_ten(), none, 10, 1, 9, buffer)?;
+    routes(&rt, &most_ways(), none, 6, 0, 5, buffer)?;
+    routes(&rt, &most_ways(), none, 6, 1, 4, buffer)?;
+    passing::tries(&rt, buffer)?;
+    crowded::tries(&rt)
 }
