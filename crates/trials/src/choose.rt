@@ -17,7 +17,7 @@ use calls::tables;
 use calls::tables::{Tables, cells, place};
 use std::num::{wrapping_add_u64, wrapping_add_usize};
 
-#[derive(Drop)]
+#[derive(Clone, Copy)]
 pub struct Pair(pub u64, pub u64);
 
 // The number of stops of a hall, one to seven. Only halls of six or seven have crowded pairs, so that most are such.

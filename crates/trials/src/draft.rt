@@ -11,7 +11,7 @@ use std::num::wrapping_add_u64;
 
 // How a list is drawn: its length; which edit is to be refused, and with what; whether links forward get the cost of a tie; and
 // from which edit on the list goes back to the hall before it.
-#[derive(Drop)]
+#[derive(Clone, Copy)]
 struct Plan {
     length: u64,
     bad: u64,
@@ -21,7 +21,7 @@ struct Plan {
 }
 
 // The edits so far, and the costs that they leave.
-#[derive(Drop)]
+#[derive(Clone, Copy)]
 struct Draft {
     list: List,
     cost: [u32; CELLS],

@@ -6,7 +6,7 @@ use calls::entries::{at, put};
 use calls::tables::{cells, place};
 use std::num::wrapping_add_usize;
 
-#[derive(Drop)]
+#[derive(Clone, Copy)]
 pub struct Image {
     pub bytes: [u8; BYTES],
     pub length: usize,

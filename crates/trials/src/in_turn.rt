@@ -7,7 +7,7 @@ use std::num::wrapping_add_u64;
 
 // What has come of the edits so far: the book that they left, the sources that they touched and whether they left a crowded pair;
 // or the refusal of the first refused edit and its place.
-#[derive(Drop)]
+#[derive(Clone, Copy)]
 struct Standing {
     book: Book,
     touched: u64,

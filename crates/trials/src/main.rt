@@ -28,12 +28,13 @@ use model::{Book, Verdict};
 use outcome::{Ask, Outcome, asked};
 use passing::brings;
 use places::{CELLS, STOPS, byte};
+use std::io;
 use tally::{ROOM, add};
 
 const RUNS: u64 = 1500;
 
 // The book, the tables, what the last call answered, and whether it was to be refused.
-#[derive(Drop)]
+#[derive(Clone, Copy)]
 struct State {
     book: Book,
     hall: Tables,
@@ -409,11 +410,11 @@ fn sequence(seed: &mut u64, tally: &mut [u64; ROOM]) {
     steps(seed, tally, stops, state, count);
 }
 
-fn main() {
+fn main(rt: HostRuntime) -> io::Result<()> {
     let mut seed = 20011;
     let mut tally = [0u64; ROOM];
     for i in 0..RUNS {
         sequence(&mut seed, &mut tally);
     }
-    tally::write(&tally);
+    tally::write(&rt, &tally)
 }

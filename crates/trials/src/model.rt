@@ -16,7 +16,7 @@ use calls::lengths::{PASSING, TABLES};
 use calls::tables::{cells, place};
 
 // The costs of a book's links, the passing times, and the lister's tables of them.
-#[derive(Drop)]
+#[derive(Clone, Copy)]
 pub struct Book {
     pub cost: [u32; CELLS],
     pub passing: [u32; STOPS],
@@ -27,7 +27,7 @@ pub struct Book {
 }
 
 // What a call must say, the book and the buffer after it, and whether a list of edits passed a hall with a crowded pair.
-#[derive(Drop)]
+#[derive(Clone, Copy)]
 pub struct Verdict {
     pub answer: Answer,
     pub book: Book,

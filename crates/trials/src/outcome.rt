@@ -12,7 +12,7 @@ use make_call::{Done, make};
 
 // A call, with the table that it lends at an odd length, the list of edits, the cost table of a work out, the passing times that
 // the call brings, and the image or the buffer with its length.
-#[derive(Drop)]
+#[derive(Clone, Copy)]
 pub struct Ask {
     pub call: Call,
     pub odd: u64,
@@ -24,7 +24,7 @@ pub struct Ask {
 }
 
 // What a call answers, with the tables and the buffer after it.
-#[derive(Drop)]
+#[derive(Clone, Copy)]
 pub struct Outcome {
     pub answer: Answer,
     pub tables: Tables,

@@ -6,6 +6,7 @@ use calls::call::{
     INSERT, LIST_ROUTES, MOVE_OVER, RAISE, WORK_OUT,
 };
 use calls::entries::wide;
+use std::io;
 use std::num::{wrapping_add_u64, wrapping_add_usize};
 
 // The refusals 0 to 14 of each call, and behind them the other counts.
@@ -244,226 +245,270 @@ fn total(tally: &[u64; ROOM], refusal: usize) -> u64 {
 }
 
 // Writes a line: a name and a number.
-fn line(name: &[u8], x: u64) {
-    io::write_all(1, name);
-    io::write_all(1, b" ");
-    io::print_decimal(1, x);
-    io::write_all(1, b"\n");
+fn line(rt: &impl Print, name: &str, x: u64) -> io::Result<()> {
+    println!(rt; "{name} {x}")
 }
 
 // Writes a line for each refusal.
-fn refusals(tally: &[u64; ROOM]) {
+fn refusals(rt: &impl Print, tally: &[u64; ROOM]) -> io::Result<()> {
     for refusal in 0..REFUSALS {
-        io::write_all(1, b"refusal ");
-        io::print_decimal(1, refusal as u64);
-        line(b"", total(tally, refusal));
+        print!(rt; "refusal {refusal}")?;
+        line(rt, "", total(tally, refusal))?;
     }
+    Ok(())
 }
 
 // Writes a line of the counts from one place up to another.
-fn counts(name: &[u8], tally: &[u64; ROOM], from: usize, to: usize) {
-    io::write_all(1, name);
+fn counts(
+    rt: &impl Print,
+    name: &str,
+    tally: &[u64; ROOM],
+    from: usize,
+    to: usize,
+) -> io::Result<()> {
+    print!(rt; "{name}")?;
     for i in from..to {
-        io::write_all(1, b" ");
-        io::print_decimal(1, count(tally, i));
+        let x = count(tally, i);
+        print!(rt; " {x}")?;
     }
-    io::write_all(1, b"\n");
+    println!(rt;)
 }
 
 // Writes a line of the refusals 0 to 14 of a call.
-fn refusals_of(name: &[u8], tally: &[u64; ROOM], call: u64) {
+fn refusals_of(rt: &impl Print, name: &str, tally: &[u64; ROOM], call: u64) -> io::Result<()> {
     let start = place(call, 0);
-    counts(name, tally, start, wrapping_add_usize(start, REFUSALS));
+    counts(rt, name, tally, start, wrapping_add_usize(start, REFUSALS))
 }
 
 // Writes what lists were met.
-fn lists(tally: &[u64; ROOM]) {
-    line(b"accepted lists of 0 edits", count(tally, ACCEPTED));
-    line(b"accepted lists of 1 edit", count(tally, ACCEPTED + 1));
+fn lists(rt: &impl Print, tally: &[u64; ROOM]) -> io::Result<()> {
+    line(rt, "accepted lists of 0 edits", count(tally, ACCEPTED))?;
+    line(rt, "accepted lists of 1 edit", count(tally, ACCEPTED + 1))?;
     line(
-        b"accepted lists of 2 to 8 edits",
+        rt,
+        "accepted lists of 2 to 8 edits",
         between(tally, ACCEPTED + 2, ACCEPTED + 9),
-    );
+    )?;
     line(
-        b"accepted lists of 9 to 31 edits",
+        rt,
+        "accepted lists of 9 to 31 edits",
         between(tally, ACCEPTED + 9, ACCEPTED + 32),
-    );
-    line(b"accepted lists of 32 edits", count(tally, ACCEPTED + 32));
+    )?;
     line(
-        b"accepted lists that undo all they did",
+        rt,
+        "accepted lists of 32 edits",
+        count(tally, ACCEPTED + 32),
+    )?;
+    line(
+        rt,
+        "accepted lists that undo all they did",
         count(tally, UNDONE),
-    );
+    )?;
     line(
-        b"accepted lists with crowded pairs in passing alone",
+        rt,
+        "accepted lists with crowded pairs in passing alone",
         count(tally, PASSING),
-    );
-    line(b"lists too long, of 33 edits", count(tally, TOO_LONG + 33));
-    line(b"lists too long, of 34 edits", count(tally, TOO_LONG + 34));
+    )?;
+    line(
+        rt,
+        "lists too long, of 33 edits",
+        count(tally, TOO_LONG + 33),
+    )?;
+    line(
+        rt,
+        "lists too long, of 34 edits",
+        count(tally, TOO_LONG + 34),
+    )?;
     counts(
-        b"lists refused at edits 1 to 32",
+        rt,
+        "lists refused at edits 1 to 32",
         tally,
         REFUSED + 1,
         REFUSED + PLACES,
-    );
+    )?;
     line(
-        b"places of refused edits",
+        rt,
+        "places of refused edits",
         met(tally, REFUSED + 1, REFUSED + PLACES),
-    );
+    )
 }
 
 // Writes what moving calls were met.
-fn moves(tally: &[u64; ROOM]) {
+fn moves(rt: &impl Print, tally: &[u64; ROOM]) -> io::Result<()> {
     counts(
-        b"moving calls accepted, 1 to 12 ways at most",
+        rt,
+        "moving calls accepted, 1 to 12 ways at most",
         tally,
         MOVES + 1,
         MOVES + 13,
-    );
+    )?;
     counts(
-        b"refused with 11, 13 to 22 ways",
+        rt,
+        "refused with 11, 13 to 22 ways",
         tally,
         MOVES + 13,
         MOVES + 23,
-    );
+    )?;
     counts(
-        b"refused with 3, 23 to 32 ways",
+        rt,
+        "refused with 3, 23 to 32 ways",
         tally,
         MOVES + 23,
         MOVES + 33,
-    );
+    )
 }
 
 // Writes what route lists were met.
-fn routes(tally: &[u64; ROOM]) {
+fn routes(rt: &impl Print, tally: &[u64; ROOM]) -> io::Result<()> {
     counts(
-        b"accepted route lists of 0 to 12 routes",
+        rt,
+        "accepted route lists of 0 to 12 routes",
         tally,
         ROUTES,
         ROUTES + LISTED,
-    );
+    )?;
     line(
-        b"accepted route lists without a route",
+        rt,
+        "accepted route lists without a route",
         count(tally, ROUTES),
-    );
+    )?;
     line(
-        b"accepted route lists of two routes or more",
+        rt,
+        "accepted route lists of two routes or more",
         between(tally, ROUTES + 2, ROUTES + LISTED),
-    );
+    )?;
     line(
-        b"accepted route lists with routes of different lengths",
+        rt,
+        "accepted route lists with routes of different lengths",
         count(tally, UNEVEN),
-    );
+    )?;
     line(
-        b"accepted route lists from a stop to itself",
+        rt,
+        "accepted route lists from a stop to itself",
         count(tally, STAYING),
-    );
+    )?;
     line(
-        b"accepted route lists in a longer buffer",
+        rt,
+        "accepted route lists in a longer buffer",
         count(tally, LONGER),
-    );
+    )?;
     line(
-        b"route lists refused for a single byte",
+        rt,
+        "route lists refused for a single byte",
         count(tally, ONE_SHORT),
-    );
+    )
 }
 
 // Writes what passing times did.
-fn passing(tally: &[u64; ROOM]) {
+fn passing(rt: &impl Print, tally: &[u64; ROOM]) -> io::Result<()> {
     line(
-        b"halls with passing times above 0",
+        rt,
+        "halls with passing times above 0",
         count(tally, PASSED_HALLS),
-    );
+    )?;
     line(
-        b"times that passing times changed in them",
+        rt,
+        "times that passing times changed in them",
         count(tally, PASSED_TIMES),
-    );
+    )?;
     line(
-        b"accepted with ties and passing times above 0",
+        rt,
+        "accepted with ties and passing times above 0",
         count(tally, PASSED_TIES),
-    );
+    )?;
     line(
-        b"moving calls accepted with passing times above 0",
+        rt,
+        "moving calls accepted with passing times above 0",
         count(tally, PASSED_MOVES),
-    );
+    )?;
     line(
-        b"moving calls refused with 3 by passing times alone",
+        rt,
+        "moving calls refused with 3 by passing times alone",
         count(tally, PASSED_KEPT),
-    );
+    )?;
     line(
-        b"accepted with crowded pairs and passing times above 0",
+        rt,
+        "accepted with crowded pairs and passing times above 0",
         count(tally, PASSED_CROWDED),
-    );
+    )?;
     line(
-        b"refused with 2 where 13 would follow",
+        rt,
+        "refused with 2 where 13 would follow",
         count(tally, ODD_AND_BAD),
-    );
+    )?;
     line(
-        b"refused with 13 where 3 would follow",
+        rt,
+        "refused with 13 where 3 would follow",
         count(tally, BAD_AND_WRONG),
-    );
+    )
 }
 
 // Writes what crowded pairs did.
-fn crowded(tally: &[u64; ROOM]) {
-    line(b"accepted with crowded pairs", count(tally, CROWDED));
+fn crowded(rt: &impl Print, tally: &[u64; ROOM]) -> io::Result<()> {
+    line(rt, "accepted with crowded pairs", count(tally, CROWDED))?;
     line(
-        b"edits with a crowded pair before or after",
+        rt,
+        "edits with a crowded pair before or after",
         count(tally, CROWDED_EDITS),
-    );
-    line(b"edits without", count(tally, UNCROWDED_EDITS));
-    line(b"edits that made a pair crowded", count(tally, MADE));
-    line(b"edits that made a pair uncrowded", count(tally, UNMADE));
-    line(b"touched rows that look the same", count(tally, ALIKE));
+    )?;
+    line(rt, "edits without", count(tally, UNCROWDED_EDITS))?;
+    line(rt, "edits that made a pair crowded", count(tally, MADE))?;
+    line(rt, "edits that made a pair uncrowded", count(tally, UNMADE))?;
+    line(rt, "touched rows that look the same", count(tally, ALIKE))?;
     line(
-        b"edits reversed with a crowded pair before or after",
+        rt,
+        "edits reversed with a crowded pair before or after",
         count(tally, REVERSED_CROWDED),
-    );
+    )?;
     line(
-        b"moving calls refused with 3 over a crowded pair",
+        rt,
+        "moving calls refused with 3 over a crowded pair",
         count(tally, CROWDED_MOVES),
-    );
+    )?;
     line(
-        b"refused with 14 where 10 would follow",
+        rt,
+        "refused with 14 where 10 would follow",
         count(tally, CROWDED_AND_SHORT),
-    );
+    )?;
     line(
-        b"refused with 4 where 14 would follow",
+        rt,
+        "refused with 4 where 14 would follow",
         count(tally, PAST_CROWDED),
-    );
+    )
 }
 
-pub fn write(tally: &[u64; ROOM]) {
-    line(b"sequences", count(tally, SEQUENCES));
-    line(b"sequences from moved halls", count(tally, MOVED));
-    line(b"moved halls with ties", count(tally, MOVED_TIES));
-    line(b"answers", count(tally, ANSWERS));
-    line(b"tables", count(tally, TABLES));
-    line(b"touched sources", count(tally, TOUCHED));
-    line(b"accepted with ties", count(tally, TIES));
-    line(b"entries drawn anew", count(tally, SPOILED));
-    line(b"inserts reversed", count(tally, reversed(INSERT)));
-    line(b"cheapens reversed", count(tally, reversed(CHEAPEN)));
-    line(b"raises reversed", count(tally, reversed(RAISE)));
-    line(b"deletes reversed", count(tally, reversed(DELETE)));
-    refusals(tally);
-    refusals_of(b"empty hall", tally, EMPTY_HALL);
-    refusals_of(b"work out", tally, WORK_OUT);
-    refusals_of(b"audit", tally, AUDIT);
-    refusals_of(b"insert", tally, INSERT);
-    refusals_of(b"cheapen", tally, CHEAPEN);
-    refusals_of(b"raise", tally, RAISE);
-    refusals_of(b"delete", tally, DELETE);
-    refusals_of(b"edit list", tally, EDIT_LIST);
-    refusals_of(b"image write", tally, IMAGE_WRITE);
-    refusals_of(b"image read", tally, IMAGE_READ);
-    refusals_of(b"move over", tally, MOVE_OVER);
-    refusals_of(b"route list", tally, LIST_ROUTES);
-    refusals_of(b"image check", tally, IMAGE_CHECK);
-    lists(tally);
-    moves(tally);
-    routes(tally);
-    passing(tally);
-    crowded(tally);
-    line(b"differences", count(tally, DIFFERENCES));
-    line(b"first in answer", count(tally, FIRST));
+pub fn write(rt: &impl Print, tally: &[u64; ROOM]) -> io::Result<()> {
+    line(rt, "sequences", count(tally, SEQUENCES))?;
+    line(rt, "sequences from moved halls", count(tally, MOVED))?;
+    line(rt, "moved halls with ties", count(tally, MOVED_TIES))?;
+    line(rt, "answers", count(tally, ANSWERS))?;
+    line(rt, "tables", count(tally, TABLES))?;
+    line(rt, "touched sources", count(tally, TOUCHED))?;
+    line(rt, "accepted with ties", count(tally, TIES))?;
+    line(rt, "entries drawn anew", count(tally, SPOILED))?;
+    line(rt, "inserts reversed", count(tally, reversed(INSERT)))?;
+    line(rt, "cheapens reversed", count(tally, reversed(CHEAPEN)))?;
+    line(rt, "raises reversed", count(tally, reversed(RAISE)))?;
+    line(rt, "deletes reversed", count(tally, reversed(DELETE)))?;
+    refusals(rt, tally)?;
+    refusals_of(rt, "empty hall", tally, EMPTY_HALL)?;
+    refusals_of(rt, "work out", tally, WORK_OUT)?;
+    refusals_of(rt, "audit", tally, AUDIT)?;
+    refusals_of(rt, "insert", tally, INSERT)?;
+    refusals_of(rt, "cheapen", tally, CHEAPEN)?;
+    refusals_of(rt, "raise", tally, RAISE)?;
+    refusals_of(rt, "delete", tally, DELETE)?;
+    refusals_of(rt, "edit list", tally, EDIT_LIST)?;
+    refusals_of(rt, "image write", tally, IMAGE_WRITE)?;
+    refusals_of(rt, "image read", tally, IMAGE_READ)?;
+    refusals_of(rt, "move over", tally, MOVE_OVER)?;
+    refusals_of(rt, "route list", tally, LIST_ROUTES)?;
+    refusals_of(rt, "image check", tally, IMAGE_CHECK)?;
+    lists(rt, tally)?;
+    moves(rt, tally)?;
+    routes(rt, tally)?;
+    passing(rt, tally)?;
+    crowded(rt, tally)?;
+    line(rt, "differences", count(tally, DIFFERENCES))?;
+    line(rt, "first in answer", count(tally, FIRST))
 }
