@@ -1,11 +1,11 @@
--- What contracts name, part by part: each table by its own parameter, at entry or at exit, and each part of an answer by its own field.
+-- What contracts name, part by part: each table by its own list, and each part of an answer by its own field.
 -- Assumes nothing.
 use mathlib.Core.Path.{◌≡◌, refl}
 use mathlib.Core.List.{List, []}
 use Prim.Native.Nat.{ℕ}
 use Rattle.book.specs.Hall.{Tables, no_passing}
 use Rattle.book.specs.Call.{Answer}
-use Rattle.book.specs.Contract.{Param, found, left, left_beside, found_unpassed, left_shares, of_refusal, of_edit, of_list, of_write}
+use Rattle.book.specs.Contract.{found, left, left_beside, found_unpassed, left_shares, of_refusal, of_edit, of_list, of_write}
 use Rattle.book.specs.declared.EditAnswer.{EditAnswer}
 use Rattle.book.specs.declared.ListAnswer.{ListAnswer}
 use Rattle.book.specs.declared.WriteAnswer.{WriteAnswer}
@@ -15,20 +15,20 @@ use Rattle.book.specs.declared.Refusal.{Refusal}
 abbrev Are : Tables → (cost passing time ways share score : List ℕ) → Type 0
 Are t cost passing time ways share score = (t.layout.cost ≡ cost) × (t.layout.passing ≡ passing) × (t.time ≡ time) × (t.ways ≡ ways) × (t.share ≡ share) × (t.score ≡ score)
 
-module _ (cost passing time ways share score : Param) where
-  pub found-so : Are (found cost passing time ways share score) cost.entry.now passing.entry.now time.entry.now ways.entry.now share.entry.now score.entry.now
+module _ (cost passing time ways share score : List ℕ) where
+  pub found-so : Are (found cost passing time ways share score) cost passing time ways share score
   found-so = (refl, refl, refl, refl, refl, refl)
 
-  pub left_so : Are (left cost passing time ways share score) cost.exit.now passing.entry.now time.exit.now ways.exit.now share.exit.now score.exit.now
+  pub left_so : Are (left cost passing time ways share score) cost passing time ways share score
   left_so = (refl, refl, refl, refl, refl, refl)
 
-  pub beside-so : Are (left_beside cost passing time ways share score) cost.entry.now passing.entry.now time.exit.now ways.exit.now share.exit.now score.exit.now
+  pub beside-so : Are (left_beside cost passing time ways share score) cost passing time ways share score
   beside-so = (refl, refl, refl, refl, refl, refl)
 
-  pub unpassed-so : (n : ℕ) → Are (found_unpassed n cost time ways share score) cost.entry.now (no_passing n) time.entry.now ways.entry.now share.entry.now score.entry.now
+  pub unpassed-so : (n : ℕ) → Are (found_unpassed n cost time ways share score) cost (no_passing n) time ways share score
   unpassed-so n = (refl, refl, refl, refl, refl, refl)
 
-  pub shares-so : (n : ℕ) → Are (left_shares n cost time ways share score) cost.entry.now (no_passing n) time.entry.now ways.entry.now share.exit.now score.exit.now
+  pub shares-so : (n : ℕ) → Are (left_shares n cost time ways share score) cost (no_passing n) time ways share score
   shares-so n = (refl, refl, refl, refl, refl, refl)
 
 -- the answer has these parts, in the order of the record

@@ -1,8 +1,6 @@
 -- How contracts name what a call is lent and gives back: the tables and the passing times as it found them and as it left them, and
 -- its answer. Assumes nothing.
 use Rattle.std.specs.Prelude.{ℕ, ◌≡◌, true, cond, List, [], leb, length}
-use Rattle.std.specs.Borrow.{Bor}
-use denote.Triple.Both.{Both}
 use Rattle.book.specs.Hall.{Layout, laid, Tables, most_stops, most_ways, scale, up_to, sized, valid_passing, no_passing, right}
 use Rattle.book.specs.Call.{Answer, plain, writes, chain}
 use Rattle.book.specs.declared.EditAnswer.{EditAnswer}
@@ -11,43 +9,38 @@ use Rattle.book.specs.declared.WriteAnswer.{WriteAnswer}
 use Rattle.book.specs.declared.Refusal.{Refusal}
 use Rattle.book.specs.declared.Refusal.TheVariants.{Accepted, ShortBuffer}
 
--- a lent list, and a parameter that is one, at entry and at exit
-abbrev pub Slice : Type 0
-Slice = Bor (List ℕ)
-
-abbrev pub Param : Type 0
-Param = Both Slice Slice
-
--- the tables as they are, as a call found them, and as it left them; the passing times are lent to be read
+-- the tables of these lists
 abbrev pub tables : (cost passing time ways share score : List ℕ) → Tables
 tables cost passing time ways share score = record { layout = laid cost passing; time = time; ways = ways; share = share; score = score }
 
-abbrev pub these : (cost passing time ways share score : Slice) → Tables
-these cost passing time ways share score = tables cost.now passing.now time.now ways.now share.now score.now
+-- a contract hands over what its lent lists hold: for the tables as a call found them `.old` of a list that is lent to be written, and
+-- `.now` of one that is lent to be read; for the tables as it left them `.new` of the former
+abbrev pub these : (cost passing time ways share score : List ℕ) → Tables
+these cost passing time ways share score = tables cost passing time ways share score
 
-abbrev pub found : (cost passing time ways share score : Param) → Tables
-found cost passing time ways share score = these cost.entry passing.entry time.entry ways.entry share.entry score.entry
+abbrev pub found : (cost passing time ways share score : List ℕ) → Tables
+found cost passing time ways share score = these cost passing time ways share score
 
-abbrev pub left : (cost passing time ways share score : Param) → Tables
-left cost passing time ways share score = these cost.exit passing.entry time.exit ways.exit share.exit score.exit
+abbrev pub left : (cost passing time ways share score : List ℕ) → Tables
+left cost passing time ways share score = these cost passing time ways share score
 
 -- the same beside a cost table that is lent to be read
-abbrev pub left_beside : (cost passing time ways share score : Param) → Tables
-left_beside cost passing time ways share score = these cost.entry passing.entry time.exit ways.exit share.exit score.exit
+abbrev pub left_beside : (cost passing time ways share score : List ℕ) → Tables
+left_beside cost passing time ways share score = these cost passing time ways share score
 
 -- the same for the moving call, which is lent no passing times and has 0 for each of n stops; costs, times and ways are lent to be read
-abbrev pub found_unpassed : ℕ → (cost time ways share score : Param) → Tables
-found_unpassed n cost time ways share score = tables cost.entry.now (no_passing n) time.entry.now ways.entry.now share.entry.now score.entry.now
+abbrev pub found_unpassed : ℕ → (cost time ways share score : List ℕ) → Tables
+found_unpassed n cost time ways share score = tables cost (no_passing n) time ways share score
 
-abbrev pub left_shares : ℕ → (cost time ways share score : Param) → Tables
-left_shares n cost time ways share score = tables cost.entry.now (no_passing n) time.entry.now ways.entry.now share.exit.now score.exit.now
+abbrev pub left_shares : ℕ → (cost time ways share score : List ℕ) → Tables
+left_shares n cost time ways share score = tables cost (no_passing n) time ways share score
 
 -- the layout of two lent tables, as they are and as a call found them
-abbrev pub this_layout : (cost passing : Slice) → Layout
-this_layout cost passing = laid cost.now passing.now
+abbrev pub this_layout : (cost passing : List ℕ) → Layout
+this_layout cost passing = laid cost passing
 
-abbrev pub found_layout : (cost passing : Param) → Layout
-found_layout cost passing = this_layout cost.entry passing.entry
+abbrev pub found_layout : (cost passing : List ℕ) → Layout
+found_layout cost passing = this_layout cost passing
 
 -- an answer as the code gives it: a refusal alone, an edit's, a list's, and that of a call that writes with its buffer
 abbrev pub of_refusal : Refusal → Answer

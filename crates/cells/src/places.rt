@@ -39,7 +39,7 @@ pub fn sized(
     score: &[u64],
 ) -> bool
     requires { n ≤ 64 }
-    ensures { result ≡ is_sized n (found cost passing time ways share score) }
+    ensures { result ≡ is_sized n (found cost.now passing.now time.now ways.now share.now score.now) }
 {
     let square = cells(n);
     let costs = cost.len() == square;

@@ -36,8 +36,8 @@ fn put_rows(
     share: &mut [u64],
     score: &mut [u64],
 )
-    requires { RightOutside n set (these cost passing time ways share score) }
-    ensures { left_beside cost passing time ways share score ≡ filled scale most_ways n (found_layout cost passing) }
+    requires { RightOutside n set (these cost.now passing.now time.old ways.old share.old score.old) }
+    ensures { left_beside cost.now passing.now time.new ways.new share.new score.new ≡ filled scale most_ways n (found_layout cost.now passing.now) }
 {
     let mut out = [0u64; 64];
     all_links(n, cost, &mut out);
@@ -67,8 +67,8 @@ pub fn put_back(
     share: &mut [u64],
     score: &mut [u64],
 )
-    requires { Undoes n course (these cost passing time ways share score) }
-    ensures { left cost passing time ways share score ≡ filled scale most_ways n (undo course (found_layout cost passing)) }
+    requires { Undoes n course (these cost.old passing.now time.old ways.old share.old score.old) }
+    ensures { left cost.new passing.now time.new ways.new share.new score.new ≡ filled scale most_ways n (undo course (found_layout cost.old passing.now)) }
 {
     put_costs(course, cost);
     let set = course.touched;

@@ -20,7 +20,7 @@ fn admit(
     share: &[u64],
     score: &[u64],
 ) -> Refusal
-    ensures { result ≡ admits n length (found cost passing time ways share score) }
+    ensures { result ≡ admits n length (found cost.now passing.now time.now ways.now share.now score.now) }
 {
     let verdict = audit(n, cost, passing, time, ways, share, score);
     if !passes(verdict) {
@@ -44,7 +44,7 @@ pub fn begin(
     share: &mut [u64],
     score: &mut [u64],
 ) -> Course
-    ensures { (result ≡ begun (admits n length (found cost passing time ways share score))) × (left cost passing time ways share score ≡ found cost passing time ways share score) }
+    ensures { (result ≡ begun (admits n length (found cost.old passing.now time.old ways.old share.old score.old))) × (left cost.new passing.now time.new ways.new share.new score.new ≡ found cost.old passing.now time.old ways.old share.old score.old) }
 {
     let refusal = admit(n, length, cost, passing, time, ways, share, score);
     let spots = [0u32; 32];

@@ -17,8 +17,8 @@ pub fn finish(
     share: &mut [u64],
     score: &mut [u64],
 ) -> ListAnswer
-    requires { Closing n course (these cost passing time ways share score) }
-    ensures { Finished n course result (found cost passing time ways share score) (left cost passing time ways share score) }
+    requires { Closing n course (these cost.old passing.now time.old ways.old share.old score.old) }
+    ensures { Finished n course result (found cost.old passing.now time.old ways.old share.old score.old) (left cost.new passing.now time.new ways.new share.new score.new) }
 {
     let refusal = course.refusal;
     let touched = course.touched;

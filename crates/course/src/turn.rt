@@ -53,8 +53,8 @@ pub fn turn(
     share: &mut [u64],
     score: &mut [u64],
 ) -> Course
-    requires { Open n course (these cost passing time ways share score) }
-    ensures { Turned n e course result (found cost passing time ways share score) (left cost passing time ways share score) }
+    requires { Open n course (these cost.old passing.now time.old ways.old share.old score.old) }
+    ensures { Turned n e course result (found cost.old passing.now time.old ways.old share.old score.old) (left cost.new passing.now time.new ways.new share.new score.new) }
 {
     let refusal = course.refusal;
     if !passes(refusal) {

@@ -37,9 +37,9 @@ fn apply(
     score: &mut [u64],
 ) -> EditAnswer
     requires measure { Measure limit scale }
-    requires change { Change limit scale n u v new (this_layout cost passing) time.old ways.old share.old }
+    requires change { Change limit scale n u v new (this_layout cost.old passing.now) time.old ways.old share.old }
     requires score_len { length score.old ≡ n }
-    ensures { Applied limit scale n u v new (found cost passing time ways share score) (left cost passing time ways share score) (of_edit result) }
+    ensures { Applied limit scale n u v new (found cost.old passing.now time.old ways.old share.old score.old) (left cost.new passing.now time.new ways.new share.new score.new) (of_edit result) }
 {
     let before = places::read_entry(n, u, v, cost);
     let touched = touch::touched_set(n, u, v, new, cost, passing, time);
@@ -66,8 +66,8 @@ pub fn edit_audited(
     share: &mut [u64],
     score: &mut [u64],
 ) -> EditAnswer
-    requires { Audited n (these cost passing time ways share score) }
-    ensures { Done (record { n = n; ask = edit e }) (found cost passing time ways share score) (left cost passing time ways share score) (of_edit result) }
+    requires { Audited n (these cost.old passing.now time.old ways.old share.old score.old) }
+    ensures { Done (record { n = n; ask = edit e }) (found cost.old passing.now time.old ways.old share.old score.old) (left cost.new passing.now time.new ways.new share.new score.new) (of_edit result) }
 {
     let verdict = permit::permit(n, e, cost);
     if !passes(verdict) {

@@ -17,7 +17,7 @@ pub fn edit(
     share: &mut [u64],
     score: &mut [u64],
 ) -> EditAnswer
-    ensures { Done (record { n = n; ask = edit e }) (found cost passing time ways share score) (left cost passing time ways share score) (of_edit result) }
+    ensures { Done (record { n = n; ask = edit e }) (found cost.old passing.now time.old ways.old share.old score.old) (left cost.new passing.now time.new ways.new share.new score.new) (of_edit result) }
 {
     let verdict = audit(n, cost, passing, time, ways, share, score);
     if !passes(verdict) {

@@ -25,7 +25,7 @@ pub fn audit_by(
     score: &[u64],
 ) -> Refusal
     requires { Measure limit scale }
-    ensures { result ≡ chain n (sized n (found cost passing time ways share score)) (valid_passing n passing.now) (is_right scale limit n (found cost passing time ways share score)) Accepted }
+    ensures { result ≡ chain n (sized n (found cost.now passing.now time.now ways.now share.now score.now)) (valid_passing n passing.now) (is_right scale limit n (found cost.now passing.now time.now ways.now share.now score.now)) Accepted }
 {
     let verdict = door(n, cost, passing, time, ways, share, score);
     if !passes(verdict) {
@@ -48,7 +48,7 @@ pub fn audit(
     share: &[u64],
     score: &[u64],
 ) -> Refusal
-    ensures { Done (record { n = n; ask = audit }) (found cost passing time ways share score) (found cost passing time ways share score) (of_refusal result) }
+    ensures { Done (record { n = n; ask = audit }) (found cost.now passing.now time.now ways.now share.now score.now) (found cost.now passing.now time.now ways.now share.now score.now) (of_refusal result) }
 {
     audit_by(
         Hall::WAYS,

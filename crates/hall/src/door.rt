@@ -16,7 +16,7 @@ pub fn door(
     share: &[u64],
     score: &[u64],
 ) -> Refusal
-    ensures { result ≡ door_tests n (found cost passing time ways share score) }
+    ensures { result ≡ door_tests n (found cost.now passing.now time.now ways.now share.now score.now) }
 {
     if !Hall::takes(n) {
         return Refusal::BadSize;

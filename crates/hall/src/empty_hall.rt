@@ -54,8 +54,8 @@ fn make_empty(
     share: &mut [u64],
     score: &mut [u64],
 )
-    requires { Inside n (these cost passing time ways share score) }
-    ensures { left cost passing time ways share score ≡ filled scale most_ways n (no_links n passing.now) }
+    requires { Inside n (these cost.old passing.now time.old ways.old share.old score.old) }
+    ensures { left cost.new passing.now time.new ways.new share.new score.new ≡ filled scale most_ways n (no_links n passing.now) }
 {
     blank(places::cells(n), cost, time, ways, share);
     diagonal(n, time, ways);
@@ -71,7 +71,7 @@ pub fn empty_hall(
     share: &mut [u64],
     score: &mut [u64],
 ) -> Refusal
-    ensures { Done (record { n = n; ask = empty_hall passing.now }) (found cost passing time ways share score) (left cost passing time ways share score) (of_refusal result) }
+    ensures { Done (record { n = n; ask = empty_hall passing.now }) (found cost.old passing.now time.old ways.old share.old score.old) (left cost.new passing.now time.new ways.new share.new score.new) (of_refusal result) }
 {
     let verdict = door(n, cost, passing, time, ways, share, score);
     if !passes(verdict) {

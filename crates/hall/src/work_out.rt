@@ -19,8 +19,8 @@ fn fill_tables(
     share: &mut [u64],
     score: &mut [u64],
 ) -> Refusal
-    requires { Inside n (these cost passing time ways share score) }
-    ensures { Done (record { n = n; ask = work_out (found_layout cost passing) }) (found cost passing time ways share score) (left_beside cost passing time ways share score) (of_refusal result) }
+    requires { Inside n (these cost.now passing.now time.old ways.old share.old score.old) }
+    ensures { Done (record { n = n; ask = work_out (found_layout cost.now passing.now) }) (found cost.now passing.now time.old ways.old share.old score.old) (left_beside cost.now passing.now time.new ways.new share.new score.new) (of_refusal result) }
 {
     if !costs::valid(n, cost) {
         return Refusal::BadCost;
@@ -39,7 +39,7 @@ pub fn work_out(
     share: &mut [u64],
     score: &mut [u64],
 ) -> Refusal
-    ensures { Done (record { n = n; ask = work_out (found_layout cost passing) }) (found cost passing time ways share score) (left_beside cost passing time ways share score) (of_refusal result) }
+    ensures { Done (record { n = n; ask = work_out (found_layout cost.now passing.now) }) (found cost.now passing.now time.old ways.old share.old score.old) (left_beside cost.now passing.now time.new ways.new share.new score.new) (of_refusal result) }
 {
     let verdict = door(n, cost, passing, time, ways, share, score);
     if !passes(verdict) {

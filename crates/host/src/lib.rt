@@ -62,7 +62,7 @@ pub extern "C" fn hall_empty(
     share: &mut [u64],
     score: &mut [u64],
 ) -> u32
-    ensures { Handed (record { n = n; ask = empty_hall passing.now }) (found cost passing time ways share score) (left cost passing time ways share score) (of_number result) }
+    ensures { Handed (record { n = n; ask = empty_hall passing.now }) (found cost.old passing.now time.old ways.old share.old score.old) (left cost.new passing.now time.new ways.new share.new score.new) (of_number result) }
 {
     number_of(empty_hall(n, cost, passing, time, ways, share, score))
 }
@@ -77,7 +77,7 @@ pub extern "C" fn hall_work_out(
     share: &mut [u64],
     score: &mut [u64],
 ) -> u32
-    ensures { Handed (record { n = n; ask = work_out (found_layout cost passing) }) (found cost passing time ways share score) (left_beside cost passing time ways share score) (of_number result) }
+    ensures { Handed (record { n = n; ask = work_out (found_layout cost.now passing.now) }) (found cost.now passing.now time.old ways.old share.old score.old) (left_beside cost.now passing.now time.new ways.new share.new score.new) (of_number result) }
 {
     number_of(work_out(n, cost, passing, time, ways, share, score))
 }
@@ -92,7 +92,7 @@ pub extern "C" fn hall_audit(
     share: &[u64],
     score: &[u64],
 ) -> u32
-    ensures { Handed (record { n = n; ask = audit }) (found cost passing time ways share score) (found cost passing time ways share score) (of_number result) }
+    ensures { Handed (record { n = n; ask = audit }) (found cost.now passing.now time.now ways.now share.now score.now) (found cost.now passing.now time.now ways.now share.now score.now) (of_number result) }
 {
     number_of(audit(n, cost, passing, time, ways, share, score))
 }
@@ -107,7 +107,7 @@ pub extern "C" fn hall_move_over(
     share: &mut [u64],
     score: &mut [u64],
 ) -> u32
-    ensures { Handed (record { n = n; ask = move_over }) (found_unpassed n cost time ways share score) (left_shares n cost time ways share score) (of_number result) }
+    ensures { Handed (record { n = n; ask = move_over }) (found_unpassed n cost.now time.now ways.now share.old score.old) (left_shares n cost.now time.now ways.now share.new score.new) (of_number result) }
 {
     number_of(move_over(n, cost, time, ways, share, score))
 }
@@ -126,7 +126,7 @@ fn edited(
     share: &mut [u64],
     score: &mut [u64],
 ) -> HallEdited
-    ensures { Handed (record { n = n; ask = edit (record { kind = kind; u = u; v = v; cost = c }) }) (found cost passing time ways share score) (left cost passing time ways share score) (of_edited result) }
+    ensures { Handed (record { n = n; ask = edit (record { kind = kind; u = u; v = v; cost = c }) }) (found cost.old passing.now time.old ways.old share.old score.old) (left cost.new passing.now time.new ways.new share.new score.new) (of_edited result) }
 {
     let e = Edit {
         kind,
@@ -157,7 +157,7 @@ pub extern "C" fn hall_insert(
     share: &mut [u64],
     score: &mut [u64],
 ) -> HallEdited
-    ensures { Handed (record { n = n; ask = edit (record { kind = Insert; u = u; v = v; cost = c }) }) (found cost passing time ways share score) (left cost passing time ways share score) (of_edited result) }
+    ensures { Handed (record { n = n; ask = edit (record { kind = Insert; u = u; v = v; cost = c }) }) (found cost.old passing.now time.old ways.old share.old score.old) (left cost.new passing.now time.new ways.new share.new score.new) (of_edited result) }
 {
     edited(
         n,
@@ -187,7 +187,7 @@ pub extern "C" fn hall_cheapen(
     share: &mut [u64],
     score: &mut [u64],
 ) -> HallEdited
-    ensures { Handed (record { n = n; ask = edit (record { kind = Cheapen; u = u; v = v; cost = c }) }) (found cost passing time ways share score) (left cost passing time ways share score) (of_edited result) }
+    ensures { Handed (record { n = n; ask = edit (record { kind = Cheapen; u = u; v = v; cost = c }) }) (found cost.old passing.now time.old ways.old share.old score.old) (left cost.new passing.now time.new ways.new share.new score.new) (of_edited result) }
 {
     edited(
         n,
@@ -217,7 +217,7 @@ pub extern "C" fn hall_raise(
     share: &mut [u64],
     score: &mut [u64],
 ) -> HallEdited
-    ensures { Handed (record { n = n; ask = edit (record { kind = Raise; u = u; v = v; cost = c }) }) (found cost passing time ways share score) (left cost passing time ways share score) (of_edited result) }
+    ensures { Handed (record { n = n; ask = edit (record { kind = Raise; u = u; v = v; cost = c }) }) (found cost.old passing.now time.old ways.old share.old score.old) (left cost.new passing.now time.new ways.new share.new score.new) (of_edited result) }
 {
     edited(
         n,
@@ -246,7 +246,7 @@ pub extern "C" fn hall_delete(
     share: &mut [u64],
     score: &mut [u64],
 ) -> HallEdited
-    ensures { Handed (record { n = n; ask = edit (record { kind = Delete; u = u; v = v; cost = 0 }) }) (found cost passing time ways share score) (left cost passing time ways share score) (of_edited result) }
+    ensures { Handed (record { n = n; ask = edit (record { kind = Delete; u = u; v = v; cost = 0 }) }) (found cost.old passing.now time.old ways.old share.old score.old) (left cost.new passing.now time.new ways.new share.new score.new) (of_edited result) }
 {
     edited(
         n,
@@ -275,7 +275,7 @@ pub extern "C" fn hall_edit_numbers(
     share: &mut [u64],
     score: &mut [u64],
 ) -> HallListed
-    ensures { HandedList n list.now (found cost passing time ways share score) (left cost passing time ways share score) result }
+    ensures { HandedList n list.now (found cost.old passing.now time.old ways.old share.old score.old) (left cost.new passing.now time.new ways.new share.new score.new) result }
 {
     let other = other_kind(list);
     if other != 0 {
@@ -309,7 +309,7 @@ pub extern "C" fn hall_list_routes(
     score: &[u64],
     buffer: &mut [u8],
 ) -> HallWritten
-    ensures { Handed (record { n = n; ask = list_routes s t buffer.old }) (found cost passing time ways share score) (found cost passing time ways share score) (of_written result buffer.new) }
+    ensures { Handed (record { n = n; ask = list_routes s t buffer.old }) (found cost.now passing.now time.now ways.now share.now score.now) (found cost.now passing.now time.now ways.now share.now score.now) (of_written result buffer.new) }
 {
     let w = list_routes(n, s, t, cost, passing, time, ways, share, score, buffer);
     let refusal = w.refusal;
@@ -330,7 +330,7 @@ pub extern "C" fn hall_image_write(
     score: &[u64],
     buffer: &mut [u8],
 ) -> HallWritten
-    ensures { Handed (record { n = n; ask = image_write buffer.old }) (found cost passing time ways share score) (found cost passing time ways share score) (of_written result buffer.new) }
+    ensures { Handed (record { n = n; ask = image_write buffer.old }) (found cost.now passing.now time.now ways.now share.now score.now) (found cost.now passing.now time.now ways.now share.now score.now) (of_written result buffer.new) }
 {
     let w = image_write(n, cost, passing, time, ways, share, score, buffer);
     let refusal = w.refusal;
@@ -351,7 +351,7 @@ pub extern "C" fn hall_image_read(
     share: &mut [u64],
     score: &mut [u64],
 ) -> u32
-    ensures { Handed (record { n = n; ask = image_read image.now passing.now }) (found cost passing time ways share score) (left cost passing time ways share score) (of_number result) }
+    ensures { Handed (record { n = n; ask = image_read image.now passing.now }) (found cost.old passing.now time.old ways.old share.old score.old) (left cost.new passing.now time.new ways.new share.new score.new) (of_number result) }
 {
     number_of(image_read(n, image, cost, passing, time, ways, share, score))
 }

@@ -102,7 +102,7 @@ pub fn image_write(
     score: &[u64],
     buffer: &mut [u8],
 ) -> WriteAnswer
-    ensures { Done (record { n = n; ask = image_write buffer.old }) (found cost passing time ways share score) (found cost passing time ways share score) (of_write result buffer.new) }
+    ensures { Done (record { n = n; ask = image_write buffer.old }) (found cost.now passing.now time.now ways.now share.now score.now) (found cost.now passing.now time.now ways.now share.now score.now) (of_write result buffer.new) }
 {
     let verdict = audit(n, cost, passing, time, ways, share, score);
     if !passes(verdict) {

@@ -20,7 +20,7 @@ pub fn edit_list(
     share: &mut [u64],
     score: &mut [u64],
 ) -> ListAnswer
-    ensures { Done (record { n = n; ask = edit_list list.now }) (found cost passing time ways share score) (left cost passing time ways share score) (of_list result) }
+    ensures { Done (record { n = n; ask = edit_list list.now }) (found cost.old passing.now time.old ways.old share.old score.old) (left cost.new passing.now time.new ways.new share.new score.new) (of_list result) }
 {
     let length = list.len();
     let count = turns(length);

@@ -31,7 +31,7 @@ pub fn move_over(
     share: &mut [u64],
     score: &mut [u64],
 ) -> Refusal
-    ensures { Done (record { n = n; ask = move_over }) (found_unpassed n cost time ways share score) (left_shares n cost time ways share score) (of_refusal result) }
+    ensures { Done (record { n = n; ask = move_over }) (found_unpassed n cost.now time.now ways.now share.old score.old) (left_shares n cost.now time.now ways.now share.new score.new) (of_refusal result) }
 {
     if !Hall::takes(n) {
         return Refusal::BadSize;

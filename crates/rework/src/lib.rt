@@ -33,7 +33,7 @@ fn rework(
     requires passing_len { (length passing.now ≡ n) × (valid_passing n passing.now ≡ true) }
     requires square { Square n time.old ways.old share.old }
     requires v_nonzero { (all ≡ false → 0 < entry n cost.now u v) × ((s : ℕ) → has set s ≡ true → s < n) }
-    ensures { Reworked limit scale n (one_link u v) all set (found_layout cost passing) time.old ways.old share.old time.new ways.new share.new }
+    ensures { Reworked limit scale n (one_link u v) all set (found_layout cost.now passing.now) time.old ways.old share.old time.new ways.new share.new }
 {
     let mut out = [0u64; 64];
     touch::choose_links(n, u, v, all, cost, time, &mut out);
@@ -57,9 +57,9 @@ pub fn set_cost(
     share: &mut [u64],
 )
     requires measure { Measure limit scale }
-    requires change { Change limit scale n u v new (this_layout cost passing) time.old ways.old share.old }
+    requires change { Change limit scale n u v new (this_layout cost.old passing.now) time.old ways.old share.old }
     requires found { Found n u v new cost.old passing.now time.old set }
-    ensures { Worked limit scale n (with_cost n u v new (found_layout cost passing)) time.new ways.new share.new ×
+    ensures { Worked limit scale n (with_cost n u v new (found_layout cost.old passing.now)) time.new ways.new share.new ×
         (cost.new ≡ put cost.old (u * n + v) new) }
 {
     let at = places::start(n, u) + v;

@@ -55,8 +55,8 @@ fn put_list(
     ways: &[u32],
     buffer: &mut [u8],
 )
-    requires { Listable n s t (this_layout cost passing) time.now ways.now × (length (route_list n (this_layout cost passing) s t) ≤ length buffer.old) }
-    ensures { buffer.new ≡ sets buffer.old 0 (route_list n (found_layout cost passing) s t) }
+    requires { Listable n s t (this_layout cost.now passing.now) time.now ways.now × (length (route_list n (this_layout cost.now passing.now) s t) ≤ length buffer.old) }
+    ensures { buffer.new ≡ sets buffer.old 0 (route_list n (found_layout cost.now passing.now) s t) }
 {
     buffer[0] = read_entry(n, s, t, ways) as u8;
     put_routes(n, s, t, cost, passing, time, 1, buffer);
@@ -73,8 +73,8 @@ fn store(
     ways: &[u32],
     buffer: &mut [u8],
 ) -> WriteAnswer
-    requires { Listable n s t (this_layout cost passing) time.now ways.now }
-    ensures { of_write result buffer.new ≡ stored (route_list n (found_layout cost passing) s t) buffer.old }
+    requires { Listable n s t (this_layout cost.now passing.now) time.now ways.now }
+    ensures { of_write result buffer.new ≡ stored (route_list n (found_layout cost.now passing.now) s t) buffer.old }
 {
     let routes = read_entry(n, s, t, ways) as usize;
     let length = 1 + routes + stops_in_all(n, s, t, passing, time, ways);
@@ -103,7 +103,7 @@ fn admit(
     share: &[u64],
     score: &[u64],
 ) -> Refusal
-    ensures { Admits n s t (found cost passing time ways share score) result }
+    ensures { Admits n s t (found cost.now passing.now time.now ways.now share.now score.now) result }
 {
     let verdict = audit(n, cost, passing, time, ways, share, score);
     if !passes(verdict) {
@@ -135,7 +135,7 @@ pub fn list_routes(
     score: &[u64],
     buffer: &mut [u8],
 ) -> WriteAnswer
-    ensures { Done (record { n = n; ask = list_routes s t buffer.old }) (found cost passing time ways share score) (found cost passing time ways share score) (of_write result buffer.new) }
+    ensures { Done (record { n = n; ask = list_routes s t buffer.old }) (found cost.now passing.now time.now ways.now share.now score.now) (found cost.now passing.now time.now ways.now share.now score.now) (of_write result buffer.new) }
 {
     let verdict = admit(n, s, t, cost, passing, time, ways, share, score);
     if !passes(verdict) {

@@ -111,9 +111,9 @@ pub fn right(
     score: &[u64],
 ) -> bool
     requires measure { Measure limit scale }
-    requires n_nonzero { (0 < n) × (n ≤ 64) × (sized n (these cost passing time ways share score) ≡ true) }
+    requires n_nonzero { (0 < n) × (n ≤ 64) × (sized n (these cost.now passing.now time.now ways.now share.now score.now) ≡ true) }
     requires passing_value { valid_passing n passing.now ≡ true }
-    ensures { result ≡ is_right scale limit n (found cost passing time ways share score) }
+    ensures { result ≡ is_right scale limit n (found cost.now passing.now time.now ways.now share.now score.now) }
 {
     if !costs::valid(n, cost) {
         return false;

@@ -7,7 +7,7 @@ use Rattle.tables.proofs.Worked.{filled-worked}
 use Rattle.tables.proofs.fill_all.fill_all.Goals.{Start}
 use Rattle.tables.proofs.fill_all.fill_all.Goals as goal
 
-workable : (c : Start) → Workable c.args.n (this_layout c.args.cost c.args.passing)
+workable : (c : Start) → Workable c.args.n (this_layout c.args.cost.now c.args.passing.now)
 workable c = let p = c.requires in record { most = p.n_nonzero.1; square = p.n_nonzero.2; long = p.passing_len.0; valid = p.n_nonzero.3; passable = p.passing_len.1 }
 
 pub fill_rows-requires : goal.fill_rows-requires
