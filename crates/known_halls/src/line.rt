@@ -5,6 +5,7 @@ use super::text::{behind, end, field, first, say};
 use super::{listed, moved, report, text};
 use calls::call::{CHEAPEN, RAISE};
 use calls::tables::{Tables, filled, link};
+use std::io;
 
 pub fn links() -> Tables {
     let mut t = filled(0, 0);
@@ -23,96 +24,116 @@ pub fn insert_links(n: u64, count: u64, before: Inserts) -> Inserts {
     inserts
 }
 
-pub fn some_scores(t: Tables) {
-    field(b"scores of stops 0, 1, 31, 32, 63: ", score(0, t));
-    field(b" ", score(1, t));
-    field(b" ", score(31, t));
-    field(b" ", score(32, t));
-    field(b" ", score(63, t));
-    end();
+pub fn some_scores(rt: &impl Print, t: Tables) -> io::Result<()> {
+    field(rt, "scores of stops 0, 1, 31, 32, 63: ", score(0, t))?;
+    field(rt, " ", score(1, t))?;
+    field(rt, " ", score(31, t))?;
+    field(rt, " ", score(32, t))?;
+    field(rt, " ", score(63, t))?;
+    end(rt)
 }
 
 // By work out, and by inserts.
-fn made() -> Tables {
-    let t = report::worked(64, links());
-    report::pair(63, t);
-    some_scores(t);
-    let empty = report::empty_hall(b"inserts: empty hall ", 64, filled(0, 0));
-    reached(64, insert_links(64, 63, no_inserts(empty)), t);
-    t
+fn made(rt: &impl Print) -> io::Result<Tables> {
+    let t = report::worked(rt, 64, links())?;
+    report::pair(rt, 63, t)?;
+    some_scores(rt, t)?;
+    let empty = report::empty_hall(rt, "inserts: empty hall ", 64, filled(0, 0))?;
+    reached(rt, 64, insert_links(64, 63, no_inserts(empty)), t)?;
+    Ok(t)
 }
 
 // An edit of the link in the middle; says whether the tables are t then.
-fn edited(name: &[u8], number: u64, cost: u64, before: Tables, t: Tables) -> Tables {
-    let left = report::edit(name, number, 64, 31, 32, cost, before);
-    report::same(left, t);
-    end();
-    left
+fn edited(
+    rt: &impl Print,
+    name: &str,
+    number: u64,
+    cost: u64,
+    before: Tables,
+    t: Tables,
+) -> io::Result<Tables> {
+    let left = report::edit(rt, name, number, 64, 31, 32, cost, before)?;
+    report::same(rt, left, t)?;
+    end(rt)?;
+    Ok(left)
 }
 
 // The link in the middle is run faster, and then slower until it costs what it did.
-fn slowed(t: Tables) {
-    let same = edited(b"raise 31 32 to 65535: ", RAISE, 65535, t, t);
-    let faster = edited(b"cheapen 31 32 to 1: ", CHEAPEN, 1, same, t);
-    edited(b"raise 31 32 to 65535: ", RAISE, 65535, faster, t);
+fn slowed(rt: &impl Print, t: Tables) -> io::Result<()> {
+    let same = edited(rt, "raise 31 32 to 65535: ", RAISE, 65535, t, t)?;
+    let faster = edited(rt, "cheapen 31 32 to 1: ", CHEAPEN, 1, same, t)?;
+    edited(rt, "raise 31 32 to 65535: ", RAISE, 65535, faster, t)?;
+    Ok(())
 }
 
 // Its old tables; moved over they are to be t.
-fn moved_over(t: Tables) {
-    let left = moved::over(b"old tables: move over ", 64, listed::old(64, links()), t);
-    some_scores(left);
+fn moved_over(rt: &impl Print, t: Tables) -> io::Result<()> {
+    let left = moved::over(
+        rt,
+        "old tables: move over ",
+        64,
+        listed::old(64, links()),
+        t,
+    )?;
+    some_scores(rt, left)
 }
 
-fn records(image: &[u8]) {
-    text::bytes(b"first record", image, 0, 4);
-    text::bytes(b"last record", image, 248, 252);
-    text::bytes(b"trailer", image, 252, 260);
-    text::bytes(b"behind it", image, 260, 264);
+fn records(rt: &impl Print, image: &[u8]) -> io::Result<()> {
+    text::bytes(rt, "first record", image, 0, 4)?;
+    text::bytes(rt, "last record", image, 248, 252)?;
+    text::bytes(rt, "trailer", image, 252, 260)?;
+    text::bytes(rt, "behind it", image, 260, 264)
 }
 
 // Writes the image into buffers of 264, 260 and 259 bytes that hold the byte 7.
-fn stored(t: Tables, long: &mut [u8], exact: &mut [u8], short: &mut [u8]) {
-    report::image_write(b"image write into 264 bytes: ", 64, t, long);
-    end();
-    records(long);
-    report::image_write(b"image write into 260 bytes: ", 64, t, exact);
-    end();
-    report::image_write(b"image write into 259 bytes: ", 64, t, short);
-    field(b", bytes changed ", text::changed(short));
-    end();
+fn stored(
+    rt: &impl Print,
+    t: Tables,
+    long: &mut [u8],
+    exact: &mut [u8],
+    short: &mut [u8],
+) -> io::Result<()> {
+    report::image_write(rt, "image write into 264 bytes: ", 64, t, long)?;
+    end(rt)?;
+    records(rt, long)?;
+    report::image_write(rt, "image write into 260 bytes: ", 64, t, exact)?;
+    end(rt)?;
+    report::image_write(rt, "image write into 259 bytes: ", 64, t, short)?;
+    field(rt, ", bytes changed ", text::changed(short))?;
+    end(rt)
 }
 
-fn checked(image: &[u8], longer: &[u8]) {
-    report::image_check(b"image check: 260 bytes ", image, 64);
-    report::image_check(b", 264 bytes ", longer, 64);
-    report::image_check(b", first 256 bytes ", first(image, 256), 64);
-    report::image_check(b", last 256 bytes ", behind(image, 4), 64);
-    report::image_check(b", n = 63 ", image, 63);
-    report::image_check(b", n = 65 ", image, 65);
-    end();
+fn checked(rt: &impl Print, image: &[u8], longer: &[u8]) -> io::Result<()> {
+    report::image_check(rt, "image check: 260 bytes ", image, 64)?;
+    report::image_check(rt, ", 264 bytes ", longer, 64)?;
+    report::image_check(rt, ", first 256 bytes ", first(image, 256), 64)?;
+    report::image_check(rt, ", last 256 bytes ", behind(image, 4), 64)?;
+    report::image_check(rt, ", n = 63 ", image, 63)?;
+    report::image_check(rt, ", n = 65 ", image, 65)?;
+    end(rt)
 }
 
 // Reads the image over an empty hall; its tables are to be t.
-fn loaded(image: &[u8], t: Tables) {
-    let empty = report::empty_hall(b"over an empty hall ", 64, filled(0, 0));
-    let left = report::image_read(b": image read ", 64, image, empty);
-    report::audit(64, left);
-    report::same(left, t);
-    end();
+fn loaded(rt: &impl Print, image: &[u8], t: Tables) -> io::Result<()> {
+    let empty = report::empty_hall(rt, "over an empty hall ", 64, filled(0, 0))?;
+    let left = report::image_read(rt, ": image read ", 64, image, empty)?;
+    report::audit(rt, 64, left)?;
+    report::same(rt, left, t)?;
+    end(rt)
 }
 
-pub fn longest() {
+pub fn longest(rt: &impl Print) -> io::Result<()> {
     let mut bytes264 = [7u8; 264];
     let mut bytes260 = [7u8; 260];
     let mut bytes259 = [7u8; 259];
     let long: &mut [u8] = &mut bytes264;
     let exact: &mut [u8] = &mut bytes260;
     let short: &mut [u8] = &mut bytes259;
-    say(b"a one-way line, 64 stops\n");
-    let t = made();
-    slowed(t);
-    moved_over(t);
-    stored(t, long, exact, short);
-    checked(exact, long);
-    loaded(exact, t);
+    say(rt, "a one-way line, 64 stops\n")?;
+    let t = made(rt)?;
+    slowed(rt, t)?;
+    moved_over(rt, t)?;
+    stored(rt, t, long, exact, short)?;
+    checked(rt, exact, long)?;
+    loaded(rt, exact, t)
 }

@@ -138,7 +138,7 @@ pub fn unlisted(call: Call, before: Tables, after: Tables, done: Done) -> u64 {
 }
 
 // The tables before a list with the costs that its edits leave, and the sources that these touch.
-#[derive(Drop)]
+#[derive(Clone, Copy)]
 pub struct Passed {
     pub tables: Tables,
     pub touched: u64,

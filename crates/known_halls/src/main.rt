@@ -17,30 +17,32 @@ mod tables;
 mod text;
 mod ways;
 
-fn main() {
-    ways::most();
-    ways::one_more();
-    ways::beside_a_link();
-    ways::worn_link();
-    sums::none_in_16_bits();
-    sums::right_in_16_bits();
-    crowded::looks_the_same();
-    crowded::not_right();
-    crowded::routes();
-    crowded::image();
-    line::longest();
-    lists::shift_change();
-    lists::most_edits();
-    lists::in_passing();
-    moved::most();
-    moved::too_many();
-    moved::none_between();
-    quickest::two_ways();
-    quickest::longest();
-    passing::longest();
-    passing::ways_made();
-    passing::ways_unmade();
-    passing::too_large();
-    sizes::too_large();
-    smallest::no_links();
+use std::io;
+
+fn main(rt: HostRuntime) -> io::Result<()> {
+    ways::most(&rt)?;
+    ways::one_more(&rt)?;
+    ways::beside_a_link(&rt)?;
+    ways::worn_link(&rt)?;
+    sums::none_in_16_bits(&rt)?;
+    sums::right_in_16_bits(&rt)?;
+    crowded::looks_the_same(&rt)?;
+    crowded::not_right(&rt)?;
+    crowded::routes(&rt)?;
+    crowded::image(&rt)?;
+    line::longest(&rt)?;
+    lists::shift_change(&rt)?;
+    lists::most_edits(&rt)?;
+    lists::in_passing(&rt)?;
+    moved::most(&rt)?;
+    moved::too_many(&rt)?;
+    moved::none_between(&rt)?;
+    quickest::two_ways(&rt)?;
+    quickest::longest(&rt)?;
+    passing::longest(&rt)?;
+    passing::ways_made(&rt)?;
+    passing::ways_unmade(&rt)?;
+    passing::too_large(&rt)?;
+    sizes::too_large(&rt)?;
+    smallest::no_links(&rt)
 }

@@ -5,6 +5,7 @@ use super::ways::fan;
 use super::{line, quickest, report, sizes};
 use calls::call::DELETE;
 use calls::tables::{Tables, filled, link, pass};
+use std::io;
 use std::num::{wrapping_add_u64, wrapping_sub_u64};
 
 // The tables with the passing time x at each of the first n stops.
@@ -17,40 +18,44 @@ fn each(n: u64, x: u64, t: Tables) -> Tables {
 }
 
 // Reads an image over an empty hall; says whether the tables are t then.
-fn read(name: &[u8], image: &[u8], empty: Tables, t: Tables) -> Tables {
-    let left = report::image_read(name, 64, image, empty);
-    report::audit(64, left);
-    report::same(left, t);
-    end();
-    left
+fn read(rt: &impl Print, name: &str, image: &[u8], empty: Tables, t: Tables) -> io::Result<Tables> {
+    let left = report::image_read(rt, name, 64, image, empty)?;
+    report::audit(rt, 64, left)?;
+    report::same(rt, left, t)?;
+    end(rt)?;
+    Ok(left)
 }
 
 // The image of a line of 64 stops, read with its passing times and with passing times of 0.
-fn read_back(empty: Tables, t: Tables) {
+fn read_back(rt: &impl Print, empty: Tables, t: Tables) -> io::Result<()> {
     let mut bytes = [7u8; 260];
     let image: &mut [u8] = &mut bytes;
-    report::image_write(b"image write into 260 bytes: ", 64, t, image);
-    end();
-    read(b"image read ", image, empty, t);
+    report::image_write(rt, "image write into 260 bytes: ", 64, t, image)?;
+    end(rt)?;
+    read(rt, "image read ", image, empty, t)?;
     let plain = read(
-        b"with passing times of 0: image read ",
+        rt,
+        "with passing times of 0: image read ",
         image,
         each(64, 0, empty),
         t,
-    );
-    report::pair(63, plain);
+    )?;
+    report::pair(rt, 63, plain)
 }
 
 // The longest line; each stop takes as long to pass as a link.
-pub fn longest() {
-    say(b"a one-way line whose stops take 65535 to pass, 64 stops\n");
-    let t = report::worked(64, each(64, 65535, line::links()));
-    report::pair(63, t);
-    line::some_scores(t);
+pub fn longest(rt: &impl Print) -> io::Result<()> {
+    say(
+        rt,
+        "a one-way line whose stops take 65535 to pass, 64 stops\n",
+    )?;
+    let t = report::worked(rt, 64, each(64, 65535, line::links()))?;
+    report::pair(rt, 63, t)?;
+    line::some_scores(rt, t)?;
     let none = each(64, 65535, filled(0, 0));
-    let empty = report::empty_hall(b"inserts: empty hall ", 64, none);
-    reached(64, line::insert_links(64, 63, no_inserts(empty)), t);
-    read_back(empty, t);
+    let empty = report::empty_hall(rt, "inserts: empty hall ", 64, none)?;
+    reached(rt, 64, line::insert_links(64, 63, no_inserts(empty)), t)?;
+    read_back(rt, empty, t)
 }
 
 // How much the larger number is above the other.
@@ -100,60 +105,63 @@ fn levelled(last: u64, t: Tables) -> Tables {
 }
 
 // 12 ways with their passing times, and one way without.
-fn twelve() {
-    let plain = report::worked(14, slanted(14, 13));
-    report::pair(13, plain);
-    report::stop(1, plain);
-    let t = report::worked(14, levelled(13, slanted(14, 13)));
-    report::pair(13, t);
-    report::middle(13, 13, t);
-    quickest::shown(14, 0, 13, 49, t);
+fn twelve(rt: &impl Print) -> io::Result<()> {
+    let plain = report::worked(rt, 14, slanted(14, 13))?;
+    report::pair(rt, 13, plain)?;
+    report::stop(rt, 1, plain)?;
+    let t = report::worked(rt, 14, levelled(13, slanted(14, 13)))?;
+    report::pair(rt, 13, t)?;
+    report::middle(rt, 13, 13, t)?;
+    quickest::shown(rt, 14, 0, 13, 49, t)?;
     let none = levelled(13, filled(0, 0));
-    let empty = report::empty_hall(b"inserts: empty hall ", 14, none);
-    reached(14, insert_slanted(14, 13, no_inserts(empty)), t);
+    let empty = report::empty_hall(rt, "inserts: empty hall ", 14, none)?;
+    reached(rt, 14, insert_slanted(14, 13, no_inserts(empty)), t)
 }
 
-pub fn ways_made() {
-    say(b"12 and 13 ways by passing times, 14 and 15 stops\n");
-    twelve();
-    let t = report::worked(15, levelled(14, slanted(15, 14)));
-    report::pair(14, t);
-    report::middle(14, 14, t);
-    quickest::shown(15, 0, 14, 53, t);
+pub fn ways_made(rt: &impl Print) -> io::Result<()> {
+    say(rt, "12 and 13 ways by passing times, 14 and 15 stops\n")?;
+    twelve(rt)?;
+    let t = report::worked(rt, 15, levelled(14, slanted(15, 14)))?;
+    report::pair(rt, 14, t)?;
+    report::middle(rt, 14, 14, t)?;
+    quickest::shown(rt, 15, 0, 14, 53, t)
 }
 
 // Of 12 ways of time 10 in links, that by stop 1 is the quickest to pass; behind it that by stop 2.
-fn one_left() {
-    let t = report::worked(14, away_from(0, 13, fan(14, 13)));
-    report::pair(13, t);
-    report::stop(1, t);
-    report::stop(2, t);
-    let left = report::edit(b"delete 1 13: ", DELETE, 14, 1, 13, 0, t);
-    report::audit(14, left);
-    end();
-    report::pair(13, left);
-    report::stop(2, left);
+fn one_left(rt: &impl Print) -> io::Result<()> {
+    let t = report::worked(rt, 14, away_from(0, 13, fan(14, 13)))?;
+    report::pair(rt, 13, t)?;
+    report::stop(rt, 1, t)?;
+    report::stop(rt, 2, t)?;
+    let left = report::edit(rt, "delete 1 13: ", DELETE, 14, 1, 13, 0, t)?;
+    report::audit(rt, 14, left)?;
+    end(rt)?;
+    report::pair(rt, 13, left)?;
+    report::stop(rt, 2, left)
 }
 
 // Of 13 ways of time 10 in links, that by stop 13 takes 1 more to pass.
-fn twelve_left() {
-    let t = report::worked(15, fan(15, 14));
-    report::pair(14, t);
-    report::middle(14, 14, t);
-    let fewer = report::worked(15, pass(13, 1, t));
-    report::pair(14, fewer);
-    report::middle(13, 14, fewer);
-    report::stop(13, fewer);
+fn twelve_left(rt: &impl Print) -> io::Result<()> {
+    let t = report::worked(rt, 15, fan(15, 14))?;
+    report::pair(rt, 14, t)?;
+    report::middle(rt, 14, 14, t)?;
+    let fewer = report::worked(rt, 15, pass(13, 1, t))?;
+    report::pair(rt, 14, fewer)?;
+    report::middle(rt, 13, 14, fewer)?;
+    report::stop(rt, 13, fewer)
 }
 
-pub fn ways_unmade() {
-    say(b"12 and 13 ways unmade by passing times, 14 and 15 stops\n");
-    one_left();
-    twelve_left();
+pub fn ways_unmade(rt: &impl Print) -> io::Result<()> {
+    say(
+        rt,
+        "12 and 13 ways unmade by passing times, 14 and 15 stops\n",
+    )?;
+    one_left(rt)?;
+    twelve_left(rt)
 }
 
 // A passing time that is too large. Every entry of the tables is 7, which is not right either.
-pub fn too_large() {
-    say(b"a passing time of 65536, 4 stops\n");
-    sizes::refused(4, pass(2, 65536, filled(7, 7)));
+pub fn too_large(rt: &impl Print) -> io::Result<()> {
+    say(rt, "a passing time of 65536, 4 stops\n")?;
+    sizes::refused(rt, 4, pass(2, 65536, filled(7, 7)))
 }

@@ -10,6 +10,7 @@ use calls::compare::unlike;
 use calls::list::no_edits;
 use calls::tables::{Tables, filled, link};
 use make_call::make;
+use std::io;
 use std::num::wrapping_add_u64;
 
 // The room of a buffer.
@@ -46,55 +47,71 @@ fn unlisted(n: u64, s: u64, t: u64, tables: Tables, length: u64, buffer: &[u8]) 
 }
 
 // A list from s to t in so many bytes; gives its length.
-pub fn listed(n: u64, s: u64, t: u64, room: usize, tables: Tables, buffer: &mut [u8]) -> u64 {
-    field(b"routes ", s);
-    field(b" ", t);
-    field(b" into ", room as u64);
+pub fn listed(
+    rt: &impl Print,
+    n: u64,
+    s: u64,
+    t: u64,
+    room: usize,
+    tables: Tables,
+    buffer: &mut [u8],
+) -> io::Result<u64> {
+    field(rt, "routes ", s)?;
+    field(rt, " ", t)?;
+    field(rt, " into ", room as u64)?;
     let answer = asked(n, s, t, room, tables, buffer);
-    field(b" bytes: ", answer.refusal);
-    field(b", length ", answer.length);
+    field(rt, " bytes: ", answer.refusal)?;
+    field(rt, ", length ", answer.length)?;
     if answer.refusal == 0 {
         let count = unlisted(n, s, t, tables, answer.length, buffer);
         if count == 0 {
-            say(b", lister agrees");
+            say(rt, ", lister agrees")?;
         } else {
-            field(b", bytes that differ from the lister's ", count);
+            field(rt, ", bytes that differ from the lister's ", count)?;
         }
     } else {
-        field(b", bytes changed ", text::changed(buffer));
+        field(rt, ", bytes changed ", text::changed(buffer))?;
     }
-    end();
-    answer.length
+    end(rt)?;
+    Ok(answer.length)
 }
 
 // The same, with the bytes that an accepted list leaves.
-pub fn shown(n: u64, s: u64, t: u64, room: usize, tables: Tables) {
+pub fn shown(
+    rt: &impl Print,
+    n: u64,
+    s: u64,
+    t: u64,
+    room: usize,
+    tables: Tables,
+) -> io::Result<()> {
     let mut bytes = [7u8; ROOM];
     let buffer: &mut [u8] = &mut bytes;
-    if 0 < listed(n, s, t, room, tables, buffer) {
-        text::bytes(b"bytes", buffer, 0, room);
+    if 0 < listed(rt, n, s, t, room, tables, buffer)? {
+        text::bytes(rt, "bytes", buffer, 0, room)?;
     }
+    Ok(())
 }
 
 // Stops that the hall has not are refused before the buffer is looked at.
-fn not_stops(t: Tables) {
-    shown(4, 4, 0, 9, t);
-    shown(4, 0, 4, 0, t);
-    shown(4, 4, 4, 9, t);
+fn not_stops(rt: &impl Print, t: Tables) -> io::Result<()> {
+    shown(rt, 4, 4, 0, 9, t)?;
+    shown(rt, 4, 0, 4, 0, t)?;
+    shown(rt, 4, 4, 4, 9, t)
 }
 
 // Two ways from stop 0 to stop 3, one from a stop to itself, and none from stop 3 to stop 0.
-pub fn two_ways() {
-    say(b"the quickest routes of two ways, 4 stops\n");
-    let t = diamond();
-    shown(4, 0, 3, 12, t);
-    shown(4, 0, 3, 9, t);
-    shown(4, 0, 3, 8, t);
-    shown(4, 2, 2, 3, t);
-    shown(4, 2, 2, 2, t);
-    shown(4, 3, 0, 1, t);
-    shown(4, 3, 0, 0, t);
-    not_stops(t);
+pub fn two_ways(rt: &impl Print) -> io::Result<()> {
+    say(rt, "the quickest routes of two ways, 4 stops\n")?;
+    let t = diamond(rt)?;
+    shown(rt, 4, 0, 3, 12, t)?;
+    shown(rt, 4, 0, 3, 9, t)?;
+    shown(rt, 4, 0, 3, 8, t)?;
+    shown(rt, 4, 2, 2, 3, t)?;
+    shown(rt, 4, 2, 2, 2, t)?;
+    shown(rt, 4, 3, 0, 1, t)?;
+    shown(rt, 4, 3, 0, 0, t)?;
+    not_stops(rt, t)
 }
 
 // A line of 64 stops. Links past one stop take as long as the line: there are two ways from 10 to 12 and from 30 to 32, and three
@@ -109,22 +126,22 @@ fn skips() -> Tables {
 }
 
 // Twelve routes of up to 64 stops: how many each has, and a number that tells their bytes.
-fn twelve(t: Tables, buffer: &mut [u8]) {
-    listed(64, 0, 63, 761, t, buffer);
-    text::lengths(b"stops", buffer);
-    field(b"sum of sums ", text::sum_of_sums(buffer, 761));
-    end();
+fn twelve(rt: &impl Print, t: Tables, buffer: &mut [u8]) -> io::Result<()> {
+    listed(rt, 64, 0, 63, 761, t, buffer)?;
+    text::lengths(rt, "stops", buffer)?;
+    field(rt, "sum of sums ", text::sum_of_sums(buffer, 761))?;
+    end(rt)
 }
 
-pub fn longest() {
+pub fn longest(rt: &impl Print) -> io::Result<()> {
     let mut bytes = [7u8; ROOM];
     let mut untouched = [7u8; ROOM];
     let buffer: &mut [u8] = &mut bytes;
-    say(b"the quickest routes of 12 ways, 64 stops\n");
-    let t = report::worked(64, skips());
-    report::pair(63, t);
-    twelve(t, buffer);
-    listed(64, 0, 63, 760, t, &mut untouched);
-    shown(64, 63, 63, 4, t);
-    shown(64, 63, 0, 2, t);
+    say(rt, "the quickest routes of 12 ways, 64 stops\n")?;
+    let t = report::worked(rt, 64, skips())?;
+    report::pair(rt, 63, t)?;
+    twelve(rt, t, buffer)?;
+    listed(rt, 64, 0, 63, 760, t, &mut untouched)?;
+    shown(rt, 64, 63, 63, 4, t)?;
+    shown(rt, 64, 63, 0, 2, t)
 }

@@ -10,6 +10,7 @@ use calls::compare::differing;
 use calls::list::{List, no_edits};
 use calls::tables::{Tables, filled, link};
 use make_call::{Done, check, make};
+use std::io;
 
 // Makes a call that writes no image.
 fn made(call: Call, image: &[u8], t: Tables) -> Done {
@@ -20,76 +21,107 @@ fn made(call: Call, image: &[u8], t: Tables) -> Done {
 // Holds a call against the lister. An accepted one is to leave the costs `wanted` and their listed
 // tables, and `unlisted` counts what else of it is not the lister's; a moving call that is refused with 11
 // met `wanted`. Of both the lister tells the most ways of a pair.
-fn held(n: u64, refusal: u64, unlisted: u64, wanted: Tables, left: Tables) {
+fn held(
+    rt: &impl Print,
+    n: u64,
+    refusal: u64,
+    unlisted: u64,
+    wanted: Tables,
+    left: Tables,
+) -> io::Result<()> {
     if refusal == 0 {
         let entries = listed::unlisted_tables(n, wanted, left);
         let count = std::num::wrapping_add_u64(unlisted, entries);
         if count == 0 {
-            say(b", lister agrees");
+            say(rt, ", lister agrees")?;
         } else {
-            field(b", entries that differ from the lister's ", count);
+            field(rt, ", entries that differ from the lister's ", count)?;
         }
-        field(b", its most ways ", listed::most_ways(n, wanted));
+        field(rt, ", its most ways ", listed::most_ways(n, wanted))?;
     }
     if refusal == 11 {
-        field(b", lister's most ways ", listed::most_ways(n, wanted));
+        field(rt, ", lister's most ways ", listed::most_ways(n, wanted))?;
     }
+    Ok(())
 }
 
 // A call that brings no link and is to leave the costs `wanted`.
-fn said(name: &[u8], number: u64, n: u64, t: Tables, wanted: Tables) -> Tables {
+fn said(
+    rt: &impl Print,
+    name: &str,
+    number: u64,
+    n: u64,
+    t: Tables,
+    wanted: Tables,
+) -> io::Result<Tables> {
     let done = made(plain(number, n), b"-", t);
     let answer = done.answer;
     let left = done.tables;
-    field(name, answer.refusal);
-    held(n, answer.refusal, 0, wanted, left);
-    left
+    field(rt, name, answer.refusal)?;
+    held(rt, n, answer.refusal, 0, wanted, left)?;
+    Ok(left)
 }
 
 // Where it is accepted, over tables of entries 0, but for the passing times.
-pub fn empty_hall(name: &[u8], n: u64, t: Tables) -> Tables {
+pub fn empty_hall(rt: &impl Print, name: &str, n: u64, t: Tables) -> io::Result<Tables> {
     let passing = t.passing;
     let mut wanted = filled(0, 0);
     wanted.passing = passing;
-    said(name, EMPTY_HALL, n, t, wanted)
+    said(rt, name, EMPTY_HALL, n, t, wanted)
 }
 
-pub fn work_out(name: &[u8], n: u64, t: Tables) -> Tables {
-    said(name, WORK_OUT, n, t, t)
+pub fn work_out(rt: &impl Print, name: &str, n: u64, t: Tables) -> io::Result<Tables> {
+    said(rt, name, WORK_OUT, n, t, t)
 }
 
 // Where it is accepted, it leaves the lister's tables by the new scale.
-pub fn move_over(name: &[u8], n: u64, t: Tables) -> Tables {
-    said(name, MOVE_OVER, n, t, t)
+pub fn move_over(rt: &impl Print, name: &str, n: u64, t: Tables) -> io::Result<Tables> {
+    said(rt, name, MOVE_OVER, n, t, t)
 }
 
 // The lister takes the costs that were read; whether they are the right ones is for `same` to say.
-pub fn image_read(name: &[u8], n: u64, image: &[u8], t: Tables) -> Tables {
+pub fn image_read(
+    rt: &impl Print,
+    name: &str,
+    n: u64,
+    image: &[u8],
+    t: Tables,
+) -> io::Result<Tables> {
     let done = made(plain(IMAGE_READ, n), image, t);
     let answer = done.answer;
     let left = done.tables;
-    field(name, answer.refusal);
-    held(n, answer.refusal, 0, left, left);
-    left
+    field(rt, name, answer.refusal)?;
+    held(rt, n, answer.refusal, 0, left, left)?;
+    Ok(left)
 }
 
-fn edited(name: &[u8], call: Call, t: Tables) -> Tables {
+fn edited(rt: &impl Print, name: &str, call: Call, t: Tables) -> io::Result<Tables> {
     let done = made(call, b"-", t);
     let answer = done.answer;
     let left = done.tables;
     let wanted = link(call.n, call.u, call.v, call.cost, t);
-    field(name, answer.refusal);
-    field(b", touched ", answer.touched);
-    field(b", rows ", answer.rows);
-    field(b", cost before ", answer.before);
+    field(rt, name, answer.refusal)?;
+    field(rt, ", touched ", answer.touched)?;
+    field(rt, ", rows ", answer.rows)?;
+    field(rt, ", cost before ", answer.before)?;
     let unlisted = listed::unlisted_answer(call, t, wanted, answer);
-    held(call.n, answer.refusal, unlisted, wanted, left);
-    left
+    held(rt, call.n, answer.refusal, unlisted, wanted, left)?;
+    Ok(left)
 }
 
 // The edit of that number. A delete's cost is 0.
-pub fn edit(name: &[u8], number: u64, n: u64, u: u64, v: u64, cost: u64, t: Tables) -> Tables {
+pub fn edit(
+    rt: &impl Print,
+    name: &str,
+    number: u64,
+    n: u64,
+    u: u64,
+    v: u64,
+    cost: u64,
+    t: Tables,
+) -> io::Result<Tables> {
     edited(
+        rt,
         name,
         Call {
             number,
@@ -103,88 +135,102 @@ pub fn edit(name: &[u8], number: u64, n: u64, u: u64, v: u64, cost: u64, t: Tabl
 }
 
 // Holds an accepted list against the lister.
-fn held_list(n: u64, list: List, answer: Answer, t: Tables, left: Tables) {
+fn held_list(
+    rt: &impl Print,
+    n: u64,
+    list: List,
+    answer: Answer,
+    t: Tables,
+    left: Tables,
+) -> io::Result<()> {
     let passed = listed::after(n, list, list.length, t);
     let unlisted = listed::unlisted_set(passed.touched, answer);
     let wanted = passed.tables;
-    held(n, 0, unlisted, wanted, left);
+    held(rt, n, 0, unlisted, wanted, left)
 }
 
 // A list of edits.
-pub fn list(name: &[u8], n: u64, list: List, t: Tables) -> Tables {
+pub fn list(rt: &impl Print, name: &str, n: u64, list: List, t: Tables) -> io::Result<Tables> {
     let mut none = [0u8; 1];
     let done = make(plain(EDIT_LIST, n), list, n, 0, b"-", &mut none, t);
     let answer = done.answer;
     let left = done.tables;
-    field(name, answer.refusal);
-    field(b", place ", answer.place);
-    field(b", touched ", answer.touched);
-    field(b", rows ", answer.rows);
+    field(rt, name, answer.refusal)?;
+    field(rt, ", place ", answer.place)?;
+    field(rt, ", touched ", answer.touched)?;
+    field(rt, ", rows ", answer.rows)?;
     if answer.refusal == 0 {
-        held_list(n, list, answer, t, left);
+        held_list(rt, n, list, answer, t, left)?;
     }
-    left
+    Ok(left)
 }
 
-pub fn audit(n: u64, t: Tables) {
+pub fn audit(rt: &impl Print, n: u64, t: Tables) -> io::Result<()> {
     let answer = made(plain(AUDIT, n), b"-", t).answer;
-    field(b", audit ", answer.refusal);
+    field(rt, ", audit ", answer.refusal)
 }
 
-pub fn image_write(name: &[u8], n: u64, t: Tables, buffer: &mut [u8]) {
+pub fn image_write(
+    rt: &impl Print,
+    name: &str,
+    n: u64,
+    t: Tables,
+    buffer: &mut [u8],
+) -> io::Result<()> {
     let answer = make(plain(IMAGE_WRITE, n), no_edits(), n, 0, b"-", buffer, t).answer;
-    field(name, answer.refusal);
-    field(b", length ", answer.length);
+    field(rt, name, answer.refusal)?;
+    field(rt, ", length ", answer.length)
 }
 
-pub fn image_check(name: &[u8], image: &[u8], n: u64) {
-    field(name, check(image, n).refusal);
+pub fn image_check(rt: &impl Print, name: &str, image: &[u8], n: u64) -> io::Result<()> {
+    field(rt, name, check(image, n).refusal)
 }
 
 // Whether six tables are six others.
-pub fn same(t: Tables, o: Tables) {
+pub fn same(rt: &impl Print, t: Tables, o: Tables) -> io::Result<()> {
     let count = differing(t, o);
     if count == 0 {
-        say(b", same tables");
+        say(rt, ", same tables")?;
     } else {
-        field(b", entries that differ ", count);
+        field(rt, ", entries that differ ", count)?;
     }
+    Ok(())
 }
 
 // The time and the ways from stop 0 to the last stop.
-pub fn pair(last: usize, t: Tables) {
-    field(b"pair 0 ", last as u64);
-    field(b": time ", tables::time(last, t));
-    field(b", ways ", tables::ways(last, t));
-    end();
+pub fn pair(rt: &impl Print, last: usize, t: Tables) -> io::Result<()> {
+    field(rt, "pair 0 ", last as u64)?;
+    field(rt, ": time ", tables::time(last, t))?;
+    field(rt, ", ways ", tables::ways(last, t))?;
+    end(rt)
 }
 
 // The least and the greatest score of the stops from 1 up to `past`, and those of the two ends.
-pub fn middle(past: usize, last: usize, t: Tables) {
-    field(b"middle stops ", tables::least(1, past, t));
-    field(b" to ", tables::greatest(1, past, t));
-    field(b", ends ", tables::score(0, t));
-    field(b" ", tables::score(last, t));
-    end();
+pub fn middle(rt: &impl Print, past: usize, last: usize, t: Tables) -> io::Result<()> {
+    field(rt, "middle stops ", tables::least(1, past, t))?;
+    field(rt, " to ", tables::greatest(1, past, t))?;
+    field(rt, ", ends ", tables::score(0, t))?;
+    field(rt, " ", tables::score(last, t))?;
+    end(rt)
 }
 
-pub fn stop(v: usize, t: Tables) {
-    field(b"stop ", v as u64);
-    field(b" scores ", tables::score(v, t));
-    end();
+pub fn stop(rt: &impl Print, v: usize, t: Tables) -> io::Result<()> {
+    field(rt, "stop ", v as u64)?;
+    field(rt, " scores ", tables::score(v, t))?;
+    end(rt)
 }
 
 // Works a cost table out and audits what that left.
-pub fn worked(n: u64, t: Tables) -> Tables {
-    let left = work_out(b"work out ", n, t);
-    audit(n, left);
-    end();
-    left
+pub fn worked(rt: &impl Print, n: u64, t: Tables) -> io::Result<Tables> {
+    let left = work_out(rt, "work out ", n, t)?;
+    audit(rt, n, left)?;
+    end(rt)?;
+    Ok(left)
 }
 
 // Inserts: how many were accepted, how much of what each answered and left is not the lister's, and
 // the tables that the last one left.
-#[derive(Drop)]
+#[derive(Clone, Copy)]
 pub struct Inserts {
     pub accepted: u64,
     pub unlisted: u64,
@@ -227,11 +273,11 @@ pub fn inserted(n: u64, u: u64, v: u64, cost: u64, before: Inserts) -> Inserts {
 }
 
 // A line on inserts that were to lead to the tables t.
-pub fn reached(n: u64, inserts: Inserts, t: Tables) {
+pub fn reached(rt: &impl Print, n: u64, inserts: Inserts, t: Tables) -> io::Result<()> {
     let left = inserts.tables;
-    field(b", accepted ", inserts.accepted);
-    held(n, 0, inserts.unlisted, left, left);
-    audit(n, left);
-    same(left, t);
-    end();
+    field(rt, ", accepted ", inserts.accepted)?;
+    held(rt, n, 0, inserts.unlisted, left, left)?;
+    audit(rt, n, left)?;
+    same(rt, left, t)?;
+    end(rt)
 }

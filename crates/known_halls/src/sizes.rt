@@ -3,53 +3,54 @@ use super::text::{end, field, say};
 use super::{lists, quickest, report, text};
 use calls::call::{CHEAPEN, DELETE, INSERT, RAISE};
 use calls::tables::{Tables, filled};
+use std::io;
 
-fn whole(n: u64, t: Tables) -> Tables {
-    let empty = report::empty_hall(b"empty hall ", n, t);
-    let left = report::work_out(b", work out ", n, empty);
-    report::audit(n, left);
-    let moved = report::move_over(b", move over ", n, left);
-    end();
-    moved
+fn whole(rt: &impl Print, n: u64, t: Tables) -> io::Result<Tables> {
+    let empty = report::empty_hall(rt, "empty hall ", n, t)?;
+    let left = report::work_out(rt, ", work out ", n, empty)?;
+    report::audit(rt, n, left)?;
+    let moved = report::move_over(rt, ", move over ", n, left)?;
+    end(rt)?;
+    Ok(moved)
 }
 
-fn edits(n: u64, t: Tables) -> Tables {
-    let more = report::edit(b"insert 0 1: ", INSERT, n, 0, 1, 5, t);
-    end();
-    let cheaper = report::edit(b"cheapen 0 1: ", CHEAPEN, n, 0, 1, 5, more);
-    end();
-    let dearer = report::edit(b"raise 0 1: ", RAISE, n, 0, 1, 5, cheaper);
-    end();
-    let less = report::edit(b"delete 0 1: ", DELETE, n, 0, 1, 0, dearer);
-    end();
-    let left = report::list(b"33 inserts: ", n, lists::inserts(33), less);
-    end();
-    left
+fn edits(rt: &impl Print, n: u64, t: Tables) -> io::Result<Tables> {
+    let more = report::edit(rt, "insert 0 1: ", INSERT, n, 0, 1, 5, t)?;
+    end(rt)?;
+    let cheaper = report::edit(rt, "cheapen 0 1: ", CHEAPEN, n, 0, 1, 5, more)?;
+    end(rt)?;
+    let dearer = report::edit(rt, "raise 0 1: ", RAISE, n, 0, 1, 5, cheaper)?;
+    end(rt)?;
+    let less = report::edit(rt, "delete 0 1: ", DELETE, n, 0, 1, 0, dearer)?;
+    end(rt)?;
+    let left = report::list(rt, "33 inserts: ", n, lists::inserts(33), less)?;
+    end(rt)?;
+    Ok(left)
 }
 
-fn images(n: u64, t: Tables, buffer: &mut [u8]) -> Tables {
+fn images(rt: &impl Print, n: u64, t: Tables, buffer: &mut [u8]) -> io::Result<Tables> {
     let image = [65u8, 1, 0, 0, 0, 0, 0, 0];
-    report::image_write(b"image write into 260 bytes: ", n, t, buffer);
-    end();
-    quickest::listed(n, 0, 1, 260, t, buffer);
-    let left = report::image_read(b"image read ", n, &image, t);
-    report::image_check(b", image check ", &image, n);
-    end();
-    left
+    report::image_write(rt, "image write into 260 bytes: ", n, t, buffer)?;
+    end(rt)?;
+    quickest::listed(rt, n, 0, 1, 260, t, buffer)?;
+    let left = report::image_read(rt, "image read ", n, &image, t)?;
+    report::image_check(rt, ", image check ", &image, n)?;
+    end(rt)?;
+    Ok(left)
 }
 
 // All calls on tables that none takes; bytes and tables are to stay.
-pub fn refused(n: u64, t: Tables) {
+pub fn refused(rt: &impl Print, n: u64, t: Tables) -> io::Result<()> {
     let mut bytes = [7u8; 260];
     let buffer: &mut [u8] = &mut bytes;
-    let left = images(n, edits(n, whole(n, t)), buffer);
-    field(b"bytes changed ", text::changed(buffer));
-    report::same(left, t);
-    end();
+    let left = images(rt, n, edits(rt, n, whole(rt, n, t)?)?, buffer)?;
+    field(rt, "bytes changed ", text::changed(buffer))?;
+    report::same(rt, left, t)?;
+    end(rt)
 }
 
 // A hall of 65 stops.
-pub fn too_large() {
-    say(b"65 stops\n");
-    refused(65, filled(7, 7));
+pub fn too_large(rt: &impl Print) -> io::Result<()> {
+    say(rt, "65 stops\n")?;
+    refused(rt, 65, filled(7, 7))
 }

@@ -1,20 +1,19 @@
 // Writing to standard output.
 use calls::compare::unlike;
-use libc::STDOUT_FILENO;
+use std::io;
 use std::num::{wrapping_add_u64, wrapping_add_usize};
 
-pub fn say(text: &[u8]) {
-    io::write_all(STDOUT_FILENO, text);
+pub fn say(rt: &impl Print, text: &str) -> io::Result<()> {
+    print!(rt; "{text}")
 }
 
 // A text, and a number behind it.
-pub fn field(text: &[u8], x: u64) {
-    io::write_all(STDOUT_FILENO, text);
-    io::print_decimal(STDOUT_FILENO, x);
+pub fn field(rt: &impl Print, text: &str, x: u64) -> io::Result<()> {
+    print!(rt; "{text}{x}")
 }
 
-pub fn end() {
-    say(b"\n");
+pub fn end(rt: &impl Print) -> io::Result<()> {
+    say(rt, "\n")
 }
 
 fn wide(x: u8) -> u64 {
@@ -26,12 +25,12 @@ fn at(bytes: &[u8], i: usize) -> u64 {
 }
 
 // A line: a name, and the bytes from one place up to another.
-pub fn bytes(name: &[u8], bytes: &[u8], from: usize, to: usize) {
-    say(name);
+pub fn bytes(rt: &impl Print, name: &str, bytes: &[u8], from: usize, to: usize) -> io::Result<()> {
+    say(rt, name)?;
     for i in from..to {
-        field(b" ", at(bytes, i));
+        field(rt, " ", at(bytes, i))?;
     }
-    end();
+    end(rt)
 }
 
 // The first k bytes, or all where there are fewer.
@@ -67,15 +66,15 @@ pub fn differing(a: &[u8], b: &[u8]) -> u64 {
 }
 
 // A line: a name, and of each route of a list the number of its stops.
-pub fn lengths(name: &[u8], list: &[u8]) {
-    say(name);
+pub fn lengths(rt: &impl Print, name: &str, list: &[u8]) -> io::Result<()> {
+    say(rt, name)?;
     let mut place = 1usize;
     for i in 0..at(list, 0) {
         let length = at(list, place);
-        field(b" ", length);
+        field(rt, " ", length)?;
         place = wrapping_add_usize(place, wrapping_add_usize(length as usize, 1));
     }
-    end();
+    end(rt)
 }
 
 // The sum of the sums of the first bytes, of the first one, the first two and so on: it tells bytes and their order.
