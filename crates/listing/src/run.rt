@@ -2,7 +2,7 @@
 ghost use Rattle.std.specs.Prelude.{◌≡◌, ◌+◌, ◌*◌, ◌≤◌, length, get_or, drop};
 ghost use Rattle.routes.specs.Route.{join_to};
 ghost use Rattle.book.specs.Hall.{most_stops, no_passing};
-ghost use Rattle.book.specs.Contract.{these, found, left, Inside, Audited};
+ghost use Rattle.book.specs.Contract.{tables, Inside, Audited};
 ghost use Rattle.words.specs.Text.{lines, words, line_of, stop_line, empty_book, report};
 ghost use Rattle.print.specs.Promise.{stop_bytes, Printed};
 ghost use Rattle.listing.specs.Promise.{book_of, Room, Stepped, Ready};
@@ -26,9 +26,9 @@ fn edit(
     share: &mut [u64],
     score: &mut [u64],
 ) -> usize
-    requires audited { Audited n (these cost passing time ways share score) }
+    requires audited { Audited n (tables cost.old passing.now time.old ways.old share.old score.old) }
     requires room { Room i at out.old }
-    ensures { Stepped n i (Line.Read e) (found cost passing time ways share score) (left cost passing time ways share score) at out.old result out.new }
+    ensures { Stepped n i (Line.Read e) (tables cost.old passing.now time.old ways.old share.old score.old) (tables cost.new passing.now time.new ways.new share.new score.new) at out.old result out.new }
 {
     let answer = edit_audited(n, e, cost, passing, time, ways, share, score);
     print::edit_line(i, answer, out, at)
@@ -48,9 +48,9 @@ fn step(
     share: &mut [u64],
     score: &mut [u64],
 ) -> usize
-    requires audited { Audited n (these cost passing time ways share score) }
+    requires audited { Audited n (tables cost.old passing.now time.old ways.old share.old score.old) }
     requires room { Room i at out.old }
-    ensures { Stepped n i (line_of (words line.now)) (found cost passing time ways share score) (left cost passing time ways share score) at out.old result out.new }
+    ensures { Stepped n i (line_of (words line.now)) (tables cost.old passing.now time.old ways.old share.old score.old) (tables cost.new passing.now time.new ways.new share.new score.new) at out.old result out.new }
 {
     match read::line_of(line) {
         Line::Unread => print::unread_line(i, out, at),
@@ -86,9 +86,9 @@ fn run(
     share: &mut [u64],
     score: &mut [u64],
 ) -> usize
-    requires audited { Audited n (these cost passing time ways share score) }
+    requires audited { Audited n (tables cost.old passing.now time.old ways.old share.old score.old) }
     requires ready { Ready text.now first out.old start }
-    ensures { Printed (report 2 (book_of n (found cost passing time ways share score)) (lines (drop first text.now))) start out.old result out.new }
+    ensures { Printed (report 2 (book_of n (tables cost.old passing.now time.old ways.old share.old score.old)) (lines (drop first text.now))) start out.old result out.new }
 {
     let mut at = start;
     let mut i: u64 = 2;
@@ -129,7 +129,7 @@ pub fn start(
     share: &mut [u64],
     score: &mut [u64],
 ) -> usize
-    requires inside { Inside n (these cost passing time ways share score) × (passing.now ≡ no_passing n) }
+    requires inside { Inside n (tables cost.old passing.now time.old ways.old share.old score.old) × (passing.now ≡ no_passing n) }
     requires ready { Ready text.now first out.old at }
     ensures { Printed (report 2 (empty_book n) (lines (drop first text.now))) at out.old result out.new }
 {
