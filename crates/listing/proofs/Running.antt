@@ -8,7 +8,7 @@ use lib.ListN.{length, get_or, take, drop, drop_of_length-le}
 use lib.Seq.{length-take-le}
 use Rattle.routes.specs.Route.{join_to, list_to, score}
 use Rattle.routes.proofs.Rows.{length-list_to, get_or-list_to}
-use Rattle.bytes.specs.Bytes.{index_of}
+use Rattle.words.specs.Scan.{index_of}
 use Rattle.book.specs.Hall.{Tables, most_ways, scale, filled, right, costs_in}
 use Rattle.book.specs.Contract.{Audited}
 use Rattle.words.specs.declared.Line.{Line}

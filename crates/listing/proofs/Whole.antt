@@ -9,7 +9,7 @@ use lib.Dec.{ltb}
 use lib.ListN.{length, take, drop, length-append}
 use lib.Seq.{take-nil, sets-eq}
 use borrow.Author.Tests.{le-ltb, lt-ltb}
-use Rattle.bytes.specs.Bytes.{index_of}
+use Rattle.words.specs.Scan.{index_of}
 use Rattle.book.specs.Hall.{most_stops, up_to}
 use Rattle.words.specs.Text.{longest, bytes, parts, lines, words, hall_of, hall_line, report, of_lines, listing, empty_book}
 use Rattle.words.proofs.Reading.{line_first}
