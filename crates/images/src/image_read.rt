@@ -2,7 +2,7 @@
 ghost use Rattle.std.specs.Prelude.{◌≡◌, true, ◌*◌, ◌≤◌, length, replicate};
 ghost use Rattle.book.specs.Hall.{is_image, costs_of};
 ghost use Rattle.book.specs.Call.{image_read, Done};
-ghost use Rattle.book.specs.Contract.{these, found, left, of_refusal, Inside};
+ghost use Rattle.book.specs.Contract.{tables, of_refusal, Inside};
 
 use book::Refusal;
 use book::limits::Hall;
@@ -47,8 +47,8 @@ fn read_tables(
     share: &mut [u64],
     score: &mut [u64],
 ) -> Refusal
-    requires { Inside n (these cost passing time ways share score) }
-    ensures { Done (record { n = n; ask = image_read image.now passing.now }) (found cost passing time ways share score) (left cost passing time ways share score) (of_refusal result) }
+    requires { Inside n (tables cost.old passing.now time.old ways.old share.old score.old) }
+    ensures { Done (record { n = n; ask = image_read image.now passing.now }) (tables cost.old passing.now time.old ways.old share.old score.old) (tables cost.new passing.now time.new ways.new share.new score.new) (of_refusal result) }
 {
     if !image_check::is_image(n, image) {
         return Refusal::BadImage;
@@ -70,7 +70,7 @@ pub fn image_read(
     share: &mut [u64],
     score: &mut [u64],
 ) -> Refusal
-    ensures { Done (record { n = n; ask = image_read image.now passing.now }) (found cost passing time ways share score) (left cost passing time ways share score) (of_refusal result) }
+    ensures { Done (record { n = n; ask = image_read image.now passing.now }) (tables cost.old passing.now time.old ways.old share.old score.old) (tables cost.new passing.now time.new ways.new share.new score.new) (of_refusal result) }
 {
     let verdict = door(n, cost, passing, time, ways, share, score);
     if !passes(verdict) {
