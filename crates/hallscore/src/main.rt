@@ -1,7 +1,9 @@
 // Reads a text from standard input and writes its listing.
 #![tactic(auto)]
 
-ghost use Rattle.std.specs.Prelude.{◌≤◌, length, IfOk};
+ghost use Rattle.std.specs.Prelude.{◌≡◌, ◌≤◌, length, take, OnOk, IfOk, IfSome};
+ghost use Rattle.std.specs.Io.KnownBytes.{Appends};
+ghost use Rattle.words.specs.Text.{listing};
 
 use listing::{LONGEST, ROOM};
 use std::io;
@@ -16,9 +18,10 @@ fn output() -> [u8; ROOM] {
     [0; ROOM]
 }
 
-// Reads until the text is full or the input ends: one read may give less than there is. Its length.
+// Reads until the text is full or the input ends: one read may give less than there is.
 fn read_full<R: Read>(from: &mut R, text: &mut [u8]) -> io::Result<usize>
-    ensures { IfOk result (λ n. n ≤ length text.new) }
+    ensures room { IfOk result (λ n. n ≤ length text.new) }
+    ensures front { IfOk result (λ n. IfSome (R.remaining from.old) (λ xs. take n text.new ≡ take (length text.new) xs)) }
 {
     let mut done = 0;
     while done < text.len() {
@@ -31,10 +34,17 @@ fn read_full<R: Read>(from: &mut R, text: &mut [u8]) -> io::Result<usize>
     Ok(done)
 }
 
-fn main(rt: HostRuntime) -> io::Result<()> {
+// Writes the listing of what the reader has left.
+fn write_listing<R: Read, W: Write>(from: &mut R, to: &mut W) -> io::Result<()>
+    ensures { OnOk result (IfSome (R.remaining from.old) (λ xs. Appends (W.contents to.old) (W.contents to.new) (listing xs))) }
+{
     let mut text = input();
-    let read = read_full(&mut rt.stdin(), &mut text)?;
+    let read = read_full(from, &mut text)?;
     let mut room = output();
     let listed = listing::list(&text[..read], &mut room);
-    rt.stdout().write_all(&room[..listed.length])
+    to.write_all(&room[..listed.length])
+}
+
+fn main(rt: HostRuntime) -> io::Result<()> {
+    write_listing(&mut rt.stdin(), &mut rt.stdout())
 }

@@ -1,0 +1,3 @@
+-- Laws of what is read and what is written.
+pub mod Filling
+pub mod Written
