@@ -1,7 +1,6 @@
 -- Rows worked out over all links beside rows that are right already: the tables are those of the hall. Assumes nothing.
 use Prim.Native.Nat.{ℕ, ◌<◌, ◌≤◌}
 use mathlib.Core.Path.{◌≡◌, refl, sym, ◌∙◌}
-use mathlib.Core.Bool.{true}
 use mathlib.Core.List.{List}
 use Rattle.routes.specs.Route.{has, least_time, capped_ways, open_share}
 use Rattle.routes.proofs.Bits.{split}

@@ -11,7 +11,7 @@ use book::Refusal;
 
 // Where a list of edits stands: its refusal so far, with the place of the edit that caused it; the sources that its edits touched;
 // and of each edit that was made the spot in the cost table that it set, and the cost before, to put it back.
-#[derive(Drop)]
+#[derive(Clone, Copy)]
 pub struct Course {
     pub refusal: Refusal,
     pub place: u32,
