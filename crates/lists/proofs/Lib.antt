@@ -1,5 +1,1 @@
-pub mod Slices
-pub mod Lending
-pub mod Locals
-pub mod Statements
-pub mod Element
+pub mod Loop

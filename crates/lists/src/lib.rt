@@ -1,5 +1,4 @@
-// A list of edits, as one call. The list is a lent slice of structs, so the borrow checker does not cover the function: proofs/edit_list is
-// a walk of its code by hand. All work is in the covered functions of `course`.
+// A list of edits, as one call, over a lent slice of structs: a thin loop over the functions of `course`.
 #![tactic(auto)]
 
 ghost use Rattle.book.specs.Call.{edit_list, Done};
