@@ -25,7 +25,7 @@ use moves::move_over;
 use route_lists::list_routes;
 
 // What a call answered, and the tables that it left.
-#[derive(Drop)]
+#[derive(Clone, Copy)]
 pub struct Done {
     pub answer: Answer,
     pub tables: Tables,
