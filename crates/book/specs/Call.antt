@@ -170,7 +170,7 @@ with_layout l t = record { layout = l; time = t.time; ways = t.ways; share = t.s
 
 -- by n, what is asked and the present layout. The moving call is lent passing times of 0, and asks for tables of the old numbers in which no
 -- pair has more than 22 ways (3), then for none with more than 12 (11); it leaves the layout, since the host's passing times stay: where it is
--- accepted, the tables are the same with them and without (`Moved-same`, proved)
+-- accepted, the tables are the same with them and without (`moved_same`, proved)
 unfoldable pub rule : ℕ → Ask → Layout → Rule
 rule n (empty_hall passing) l =
     bringing (laid l.cost passing) (eqb (length passing) n) Accepted (no_links n passing)
