@@ -18,18 +18,18 @@
  *
  * LINKING
  *
- * `rt staticlib host` makes target/staticlib/libhost.a, which stands behind
- * the last of the host's own files: cc host.c libhost.a. It is for x86-64
- * Linux with 64-bit pointers (the System V calling convention) and runs on
- * every such processor. It is position independent, so it goes into programs
- * with -pie, -no-pie or -static and into shared objects. Of the C library it
- * needs memcpy and memset (tried with glibc), and nothing else. It has no
- * variables, no unwind tables and no debug data; it starts nothing, calls
- * nothing back and leaves errno alone.
+ * `rt lib --cpu=x86-64` in the folder crates/host makes out/libhost.a there,
+ * which stands behind the last of the host's own files: cc host.c libhost.a. It
+ * is for x86-64 Linux with 64-bit pointers (the System V calling convention)
+ * and runs on every such processor. It is position independent, so it goes into
+ * programs with -pie, -no-pie or -static and into shared objects. Of the C
+ * library it needs memcpy and memset (tried with glibc), and nothing else. It
+ * has no variables, no unwind tables and no debug data; it starts nothing,
+ * calls nothing back and leaves errno alone.
  *
  * A call needs at most HALL_STACK bytes of stack, 40 KiB. Measured: a list of
- * routes 25 KiB, a list of edits 5 KiB, all others below 4 KiB; the rest is a
- * margin, for the dynamic linker at the first call among others.
+ * routes 16 KiB, an edit or a list of edits 6 KiB, all others below 3 KiB; the
+ * rest is a margin, for the dynamic linker at the first call among others.
  *
  * The library is proved; that this header fits it is not. `make -C host check`
  * tries it. The two go together: compile a host anew for another release of
