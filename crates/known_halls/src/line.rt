@@ -1,6 +1,6 @@
 // The longest line: 64 stops, each with a link of the largest cost to the next.
+use super::reading::score;
 use super::report::{Inserts, inserted, no_inserts, reached};
-use super::tables::score;
 use super::text::{behind, end, field, first, say};
 use super::{listed, moved, report, text};
 use calls::call::{CHEAPEN, RAISE};

@@ -1,6 +1,6 @@
 // What the lister lists for the halls of the calls, and how much of what a call answered and left is
 // otherwise.
-use super::tables;
+use super::reading;
 use calls::answer::Answer;
 use calls::call::{Call, DELETE};
 use calls::compare::{differing, sum, unlike};
@@ -87,7 +87,7 @@ pub fn unlisted_tables(n: u64, wanted: Tables, left: Tables) -> u64 {
 
 // The most ways of a pair, by the lister, which counts them all.
 pub fn most_ways(n: u64, t: Tables) -> u64 {
-    tables::most_ways(n, unlimited(n, t))
+    reading::most_ways(n, unlimited(n, t))
 }
 
 // The sources from which a quickest route, before or after, uses the link of an edit.

@@ -9,11 +9,11 @@ mod lists;
 mod moved;
 mod passing;
 mod quickest;
+mod reading;
 mod report;
 mod sizes;
 mod smallest;
 mod sums;
-mod tables;
 mod text;
 mod ways;
 

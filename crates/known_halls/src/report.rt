@@ -1,7 +1,7 @@
 // Calls with what they answered written behind a name, and what the lister says of it; and lines on
 // what tables hold. A call's function gives the tables that it left.
 use super::text::{end, field, say};
-use super::{listed, tables};
+use super::{listed, reading};
 use calls::answer::Answer;
 use calls::call::{
     AUDIT, Call, EDIT_LIST, EMPTY_HALL, IMAGE_READ, IMAGE_WRITE, INSERT, MOVE_OVER, WORK_OUT, plain,
@@ -200,23 +200,23 @@ pub fn same(rt: &impl Print, t: Tables, o: Tables) -> io::Result<()> {
 // The time and the ways from stop 0 to the last stop.
 pub fn pair(rt: &impl Print, last: usize, t: Tables) -> io::Result<()> {
     field(rt, "pair 0 ", last as u64)?;
-    field(rt, ": time ", tables::time(last, t))?;
-    field(rt, ", ways ", tables::ways(last, t))?;
+    field(rt, ": time ", reading::time(last, t))?;
+    field(rt, ", ways ", reading::ways(last, t))?;
     end(rt)
 }
 
 // The least and the greatest score of the stops from 1 up to `past`, and those of the two ends.
 pub fn middle(rt: &impl Print, past: usize, last: usize, t: Tables) -> io::Result<()> {
-    field(rt, "middle stops ", tables::least(1, past, t))?;
-    field(rt, " to ", tables::greatest(1, past, t))?;
-    field(rt, ", ends ", tables::score(0, t))?;
-    field(rt, " ", tables::score(last, t))?;
+    field(rt, "middle stops ", reading::least(1, past, t))?;
+    field(rt, " to ", reading::greatest(1, past, t))?;
+    field(rt, ", ends ", reading::score(0, t))?;
+    field(rt, " ", reading::score(last, t))?;
     end(rt)
 }
 
 pub fn stop(rt: &impl Print, v: usize, t: Tables) -> io::Result<()> {
     field(rt, "stop ", v as u64)?;
-    field(rt, " scores ", tables::score(v, t))?;
+    field(rt, " scores ", reading::score(v, t))?;
     end(rt)
 }
 

@@ -47,11 +47,3 @@ loop-k-preserved c = undoing-goes _ _ _ _ _ c.loop-k.k c.loop-k-test.true c.loop
 
 pub returns : goal.returns
 returns c = undoing_ends _ _ _ _ _ c.loop-k.k c.loop-k-test.false c.loop-k.invariant
-
--- NOT PLACED cast-at
-
--- NOT PLACED same_length
-
--- NOT PLACED loop-again
-
--- NOT PLACED loop-less
