@@ -1,13 +1,12 @@
 -- The parts of an answer: its refusal is the call's, and what a call has no use for is empty. Assumes nothing.
+use Rattle.std.specs.Prelude.{Ok, Err}
 use Prim.Native.Nat.{ℕ}
 use mathlib.Core.Path.{◌≡◌, refl, ◌∙◌, ap}
 use mathlib.Core.Bool.{Bool, true, false, cond}
 use mathlib.Core.List.{[]}
 use Rattle.book.specs.Hall.{Layout, Tables}
-use Rattle.book.specs.Call.{Ask, empty_hall, audit, move_over, work_out, edit, edit_list, list_routes, image_write, image_read, Call, accepted, Answer, refused_at, Rule, rule, reply, refusal, answer, Done}
+use Rattle.book.specs.Call.{Ask, empty_hall, audit, move_over, work_out, edit, edit_list, list_routes, image_write, image_read, Call, accepted, Answer, refused_at, Rule, rule, reply, refusal, answer, Done, Accepted, Outcome}
 use Rattle.book.specs.Book.{Book, book_refusal, book_answer}
-use Rattle.book.specs.declared.Refusal.{Refusal}
-use Rattle.book.specs.declared.Refusal.TheVariants.{Accepted, BadSize, BadLength, BadTables, BadStop, BadCost, LinkPresent, LinkAbsent, CostWrongSide, BadImage, ShortBuffer, TooManyWays, ListTooLong, BadPassing, CrowdedPair}
 
 -- an accepted call says so
 says-accepted : (n : ℕ) (ask : Ask) (lay : Layout) → (rule n ask lay).says.refusal ≡ Accepted
@@ -23,22 +22,9 @@ says-accepted n (image_write buffer) lay = refl
 says-accepted n (image_read image passing) lay = refl
 
 -- so a reply has the refusal that it is made of
-reply-refusal : (r : Refusal) (x : Rule) → x.says.refusal ≡ Accepted → (reply r x).refusal ≡ r
-reply-refusal Accepted x e = e
-reply-refusal BadSize x e = refl
-reply-refusal BadLength x e = refl
-reply-refusal BadTables x e = refl
-reply-refusal BadStop x e = refl
-reply-refusal BadCost x e = refl
-reply-refusal LinkPresent x e = refl
-reply-refusal LinkAbsent x e = refl
-reply-refusal CostWrongSide x e = refl
-reply-refusal BadImage x e = refl
-reply-refusal ShortBuffer x e = refl
-reply-refusal TooManyWays x e = refl
-reply-refusal ListTooLong x e = refl
-reply-refusal BadPassing x e = refl
-reply-refusal CrowdedPair x e = refl
+reply-refusal : (r : Outcome) (x : Rule) → x.says.refusal ≡ Accepted → (reply r x).refusal ≡ r
+reply-refusal (Ok tt) x e = e
+reply-refusal (Err r) x e = refl
 
 -- the answer of a call, of the book, and of a call that was made
 pub answer-refusal : (c : Call) (t : Tables) → (answer c t).refusal ≡ refusal c t
@@ -72,7 +58,7 @@ Parts (image_write buffer) a = NoSet a
 Parts (image_read image passing) a = NoSet a × NoBytes a
 
 -- what holds of what an accepted call says and of a refusal with its place holds of its answer
-pub reply-either : (P : Answer → Type 0) (r : Refusal) (x : Rule) → (accepted r ≡ true → P x.says) → P (refused_at r (x.place r) x.lent_buffer) → P (reply r x)
+pub reply-either : (P : Answer → Type 0) (r : Outcome) (x : Rule) → (accepted r ≡ true → P x.says) → P (refused_at r (x.place r) x.lent_buffer) → P (reply r x)
 reply-either P r x said refused = go (accepted r) refl
   where
     go : (b : Bool) → accepted r ≡ b → P (cond b x.says (refused_at r (x.place r) x.lent_buffer))

@@ -1,4 +1,5 @@
 -- The audit accepts exactly the tables that work out fills. Assumes nothing.
+use Rattle.std.specs.Prelude.{Err}
 use Prim.Native.Nat.{ℕ}
 use mathlib.Core.Path.{◌≡◌, refl, sym, ◌∙◌, ap, subst}
 use mathlib.Core.Logic.{◌≢◌, ◌↔◌}
@@ -6,8 +7,8 @@ use mathlib.Core.Bool.{Bool, true, false, ◌||◌}
 use lib.Dec.{eqb, leb}
 use borrow.Author.Tests.{eq-eqb}
 use Rattle.book.specs.Hall.{Layout, Tables, most_stops, most_ways, scale, up_to, filled, sized, valid_costs, right, valid_passing}
-use Rattle.book.specs.Call.{Call, audit, work_out, number, accepted, need, rule, refusal, after}
-use Rattle.book.specs.declared.Refusal.TheVariants.{Accepted, BadSize, BadLength, BadTables, BadPassing}
+use Rattle.book.specs.Call.{Call, audit, work_out, number, accepted, need, rule, refusal, after, Accepted}
+use Rattle.book.specs.declared.Refusal.TheVariants.{BadSize, BadLength, BadTables, BadPassing}
 use Rattle.book.proofs.Filled.{sized-filled, right-filled, right-true}
 use Rattle.book.proofs.Passed.{need-true, passed, fitted, brief, audited}
 use Rattle.book.proofs.Steps.{worked-held, held-worked, held-right}
@@ -24,16 +25,16 @@ module _ (n : ℕ) (t : Tables) (size : up_to most_stops n ≡ true) (lengths : 
   -- of the tables with these lengths and such passing times it accepts exactly the right ones
   pub audit-accepts : (refusal (record { n = n; ask = audit }) t ≡ Accepted) ↔ RightTables n t
   audit-accepts = (
-    λ e. right-true scale most_ways n t (need-true (right scale most_ways n t) BadTables Accepted refl (ap accepted (sym audit-right ∙ e))).0,
+    λ e. right-true scale most_ways n t (need-true (right scale most_ways n t) BadTables Accepted (ap accepted (sym audit-right ∙ e))).0,
     λ r. let passes = subst (λ x. right scale most_ways n x ≡ true) r.1 (right-filled scale most_ways n t.layout r.0) in
         audit-right ∙ ap (λ b. need b BadTables Accepted) passes,
   )
 
   -- and any others are 3
-  pub audit-refuses : (RightTables n t → ⊥) → refusal (record { n = n; ask = audit }) t ≡ BadTables
+  pub audit-refuses : (RightTables n t → ⊥) → refusal (record { n = n; ask = audit }) t ≡ Err BadTables
   audit-refuses h = audit-right ∙ go (right scale most_ways n t) refl
     where
-      go : (b : Bool) → right scale most_ways n t ≡ b → need b BadTables Accepted ≡ BadTables
+      go : (b : Bool) → right scale most_ways n t ≡ b → need b BadTables Accepted ≡ Err BadTables
       go true e = absurd (h (right-true scale most_ways n t e))
       go false e = refl
 
@@ -87,7 +88,7 @@ audit-worked n lay t e =
 
 -- and beside its layout no other times, ways, shares or scores of their lengths do
 pub audit-other : (n : ℕ) (lay : Layout) (t t' : Tables) → refusal (record { n = n; ask = work_out lay }) t ≡ Accepted →
-    t'.layout ≡ lay → sized n t' ≡ true → t' ≢ after (record { n = n; ask = work_out lay }) t → refusal (record { n = n; ask = audit }) t' ≡ BadTables
+    t'.layout ≡ lay → sized n t' ≡ true → t' ≢ after (record { n = n; ask = work_out lay }) t → refusal (record { n = n; ask = audit }) t' ≡ Err BadTables
 unfolding after rule
 audit-other n lay t t' e costs lengths other =
     audit-refuses n t' (passed (record { n = n; ask = work_out lay }) t e).0 lengths (rw costs (brief (record { n = n; ask = work_out lay }) t e))

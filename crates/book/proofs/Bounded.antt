@@ -12,9 +12,8 @@ use Rattle.routes.specs.Route.{Costs, mark, list_to, least_time, capped_ways, sc
 use Rattle.routes.proofs.Rows.{length-list_to, get_or-list_to}
 use Rattle.routes.proofs.Bounds.{score-limit}
 use Rattle.book.specs.Hall.{Layout, Tables, most_ways, scale, entry, filled, costs_in}
-use Rattle.book.specs.Call.{Call, run, Answer, refusal, Done}
+use Rattle.book.specs.Call.{Call, run, Answer, refusal, Done, Accepted}
 use Rattle.book.specs.Book.{Step, kept, Sequence, Start, Started, lent}
-use Rattle.book.specs.declared.Refusal.TheVariants.{Accepted}
 use Rattle.book.proofs.Tables.{entry-table}
 use Rattle.book.proofs.Answers.{done-refusal}
 use Rattle.book.proofs.Steps.{Held, accepted-filled, lent-held}

@@ -1,5 +1,6 @@
 -- The calls that write bytes in front of a lent buffer, the route list and the image write: what they share, whatever the bytes are.
 -- Assumes nothing.
+use Rattle.std.specs.Prelude.{Err, Ok}
 use Prim.Native.Nat.{ℕ, ◌<◌, ◌≤◌}
 use mathlib.Core.Path.{◌≡◌, refl, sym, ◌∙◌, subst}
 use mathlib.Core.Bool.{Bool, true, false, cond, not, ◌&&◌}
@@ -9,20 +10,19 @@ use lib.Dec.{ltb, leb}
 use lib.ListN.{length, drop}
 use borrow.Author.Tests.{le-leb, lt-leb}
 use Rattle.book.specs.Hall.{Tables, most_ways, scale, crowded_pair, right, route_list, image_of}
-use Rattle.book.specs.Call.{Call, audit, list_routes, image_write, accepted, need, Answer, refused_at, plain, writes, writing, rule, refusal, after, answer, Done}
+use Rattle.book.specs.Call.{Call, audit, list_routes, image_write, accepted, need, Answer, refused_at, plain, writes, writing, rule, refusal, after, answer, Done, Accepted, Outcome}
 use Rattle.book.specs.Contract.{of_refusal, of_write, stored, Audited}
-use Rattle.book.specs.declared.Refusal.{Refusal}
-use Rattle.book.specs.declared.Refusal.TheVariants.{Accepted, BadStop, ShortBuffer, CrowdedPair}
+use Rattle.book.specs.declared.Refusal.TheVariants.{BadStop, ShortBuffer, CrowdedPair}
 use Rattle.book.proofs.Passed.{audited}
 use Rattle.book.proofs.Refused.{buffer_of, place_of, refused-done}
 use Rattle.book.proofs.Doors.{audit-refused, behind-audit, leaves-tables}
 
 -- k bytes: a buffer that is too short for them, and one that holds them in front of what it held
 module _ (bytes : List ℕ) (k : ℕ) (size : length bytes ≡ k) (b : List ℕ) where
-  pub stored_short : length b < k → of_write (record { refusal = ShortBuffer; length = 0 }) b ≡ stored bytes b
+  pub stored_short : length b < k → of_write (Err ShortBuffer) b ≡ stored bytes b
   stored_short h = rw (lt-leb (length bytes) (length b) (omega arith))
 
-  pub stored-whole : {all : List ℕ} → k ≤ length b → all ≡ bytes ++ drop k b → of_write (record { refusal = Accepted; length = k }) all ≡ stored bytes b
+  pub stored-whole : {all : List ℕ} → k ≤ length b → all ≡ bytes ++ drop k b → of_write (Ok (k)) all ≡ stored bytes b
   stored-whole {all} h e = rw (e, size, le-leb k (length b) h)
 
 -- a call that, by its rule, writes these bytes; `full` says that its stops are a crowded pair
@@ -43,11 +43,11 @@ module _ {c : Call} {t : Tables} {known full : Bool} {bytes buffer : List ℕ} (
   write-leaves = leaves-tables c t (rw w.by-rule) (rw w.by-rule)
 
   -- a refused one tells no place, and its buffer is as it was lent
-  refused-so : (r : Refusal) → Done c t t (refused_at r (place_of c t r) (buffer_of c t)) → Done c t t (plain r buffer)
+  refused-so : (r : Outcome) → Done c t t (refused_at r (place_of c t r) (buffer_of c t)) → Done c t t (plain r buffer)
   refused-so r d = subst (λ x. Done c t t (refused_at r (x.place r) x.lent_buffer)) w.by-rule d
 
   -- it is refused as the audit refuses
-  pub write-refused : {t' : Tables} (r : Refusal) → Done (record { n = c.n; ask = audit }) t t' (of_refusal r) → accepted r ≡ false → Done c t t (plain r buffer)
+  pub write-refused : {t' : Tables} (r : Outcome) → Done (record { n = c.n; ask = audit }) t t' (of_refusal r) → accepted r ≡ false → Done c t t (plain r buffer)
   write-refused r d shut = refused-so r (audit-refused c t (λ s. rw w.by-rule) (rw w.by-rule) (rw w.by-rule) r d shut)
 
   module _ (a : Audited c.n t) where
@@ -56,12 +56,12 @@ module _ {c : Call} {t : Tables} {known full : Bool} {bytes buffer : List ℕ} (
     write-tests = behind-audit c t (λ s. rw w.by-rule) (rw w.by-rule) (rw w.by-rule) a ∙ rw w.by-rule
 
     -- a stop of n or more
-    pub write-nowhere : known ≡ false → Done c t t (plain BadStop buffer)
-    write-nowhere e = refused-so BadStop (refused-done c t BadStop (write-tests ∙ rw e) refl)
+    pub write-nowhere : known ≡ false → Done c t t (plain (Err BadStop) buffer)
+    write-nowhere e = refused-so (Err BadStop) (refused-done c t (Err BadStop) (write-tests ∙ rw e) refl)
 
     -- a crowded pair
-    pub write-crowded : known ≡ true → full ≡ true → Done c t t (plain CrowdedPair buffer)
-    write-crowded e f = refused-so CrowdedPair (refused-done c t CrowdedPair (write-tests ∙ rw (e, f)) refl)
+    pub write-crowded : known ≡ true → full ≡ true → Done c t t (plain (Err CrowdedPair) buffer)
+    write-crowded e f = refused-so (Err CrowdedPair) (refused-done c t (Err CrowdedPair) (write-tests ∙ rw (e, f)) refl)
 
     -- its bytes are stored where they fit
     pub write-stored : {x : Answer} → known ≡ true → full ≡ false → x ≡ stored bytes buffer → Done c t t x
@@ -69,8 +69,8 @@ module _ {c : Call} {t : Tables} {known full : Bool} {bytes buffer : List ℕ} (
     write-stored {x} e o f = record { left = sym write-leaves; answered = f ∙ rw (write-tests, e, o, w.by-rule) (go (leb (length bytes) (length buffer))) }
       where
         go : (b : Bool) →
-            let r : Refusal = need b ShortBuffer Accepted in
-            cond b (writes bytes buffer) (plain ShortBuffer buffer) ≡ cond (accepted r) (writes bytes buffer) (plain r buffer)
+            let r : Outcome = need b ShortBuffer Accepted in
+            cond b (writes bytes buffer) (plain (Err ShortBuffer) buffer) ≡ cond (accepted r) (writes bytes buffer) (plain r buffer)
         go true = refl
         go false = refl
 

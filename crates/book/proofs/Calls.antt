@@ -1,5 +1,6 @@
 -- What the demands say of single calls, over `refusal`, `after` and `answer`: exact shares, one stop,
 -- and images written and read. Assumes nothing.
+use Rattle.std.specs.Prelude.{Err}
 use Prim.Native.Nat.{ℕ, zero, suc, ◌*◌, ◌%◌, ◌<◌, ◌≤◌, ◌∣◌}
 use native.Mathlib.Nat.{dvd_of_mod-eq-zero, dvd-mul_right_of_dvd, div-mul_cancel, lt_irrefl}
 use mathlib.Core.Path.{◌≡◌, refl, ◌∙◌, ap}
@@ -13,7 +14,7 @@ use borrow.Author.Tests.{eqb-true, ne_eqb, eq-eqb}
 use Rattle.routes.specs.Route.{Costs, all_to, ways, through, portion}
 use Rattle.routes.proofs.Sums.{all_true}
 use Rattle.book.specs.Hall.{Layout, Tables, most_stops, most_ways, scale, old_most_ways, old_scale, up_to, entry, filled, sized, valid_pair, right, image_of, is_image, costs_of, laid, valid_passing, no_links}
-use Rattle.book.specs.Call.{Call, edit, image_write, image_read, cost_tests, rule, Answer, refusal, after, answer}
+use Rattle.book.specs.Call.{Call, edit, image_write, image_read, cost_tests, rule, Answer, refusal, after, answer, Accepted}
 use Rattle.book.proofs.Bytes.{Bytes}
 use Rattle.book.proofs.Images.{written_read, written-costs, read-written}
 use Rattle.book.proofs.Filled.{sized-filled, sized-cost, right-filled, right-true, sized-passing}
@@ -22,7 +23,7 @@ use Rattle.book.proofs.Steps.{held-audited, accepted-held, accepted-filled, OfMo
 use Rattle.book.proofs.Buffers.{image-writes, write-taken, written-right, written-length, written-buffer}
 use Rattle.book.proofs.NoLinks.{valid-none}
 use Rattle.book.specs.declared.Edit.{Edit}
-use Rattle.book.specs.declared.Refusal.TheVariants.{Accepted, BadStop, BadImage}
+use Rattle.book.specs.declared.Refusal.TheVariants.{BadStop, BadImage}
 use Rattle.book.proofs.Sizes.{stops}
 
 -- 1 to m divide L, tested one by one
@@ -51,7 +52,7 @@ exact W n s v t some few a b =
     (div-mul_cancel (ways W n s t) (dvd-mul_right_of_dvd (ways W n s t) (whole (ways W n s t) some few) (through W n s v t)))
 
 -- every edit of a hall of one stop is 4
-pub one-stop : (e : Edit) (p : ℕ) → valid_passing 1 (p ∷ []) ≡ true → refusal (record { n = 1; ask = edit e }) (filled scale most_ways 1 (no_links 1 (p ∷ []))) ≡ BadStop
+pub one-stop : (e : Edit) (p : ℕ) → valid_passing 1 (p ∷ []) ≡ true → refusal (record { n = 1; ask = edit e }) (filled scale most_ways 1 (no_links 1 (p ∷ []))) ≡ Err BadStop
 unfolding refusal rule filled
 one-stop e p fits =
     let lay : Layout = no_links 1 (p ∷ []) in
@@ -111,7 +112,7 @@ read_back n t image passing buffer bytes ok fits =
     let read : Call = record { n = n; ask = image_read image passing } in
     let lay : Layout = laid (costs_of n image) passing in
     let (size, lengths, tests) = passed read t ok in
-    let again = read-written n image (stops n size).1 bytes (need-true (is_image n image) BadImage _ refl tests).0 in
+    let again = read-written n image (stops n size).1 bytes (need-true (is_image n image) BadImage _ tests).0 in
     let w = image-writes n (filled scale most_ways n lay) buffer in
     let taken = write-taken w (held-audited n lay (accepted-held read t ok tt)) refl refl (rw again fits) in
     rw (accepted-filled read t ok)

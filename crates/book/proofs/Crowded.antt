@@ -1,6 +1,7 @@
 -- Halls of six stops with exactly 12 ways of a pair, and with more, a crowded pair, every passing time 0: the calls that leave one, its
 -- tables, a touched row that stays as it was, route lists, the moving call and audit; most of it computed over the book, which demand 3 ties
 -- to the tables. The tables were worked out apart; lister_try writes the scores of `fewer` too. Assumes nothing.
+use Rattle.std.specs.Prelude.{Err}
 use Prim.Native.Nat.{ℕ, ◌-◌}
 use mathlib.Core.Path.{◌≡◌, refl}
 use mathlib.Core.Bool.{Bool, true, false, cond, not, ◌&&◌, ◌||◌}
@@ -139,7 +140,7 @@ unfolding sum_to join_to list_to all_to count chosen ahead among in_order visits
 crowded-lists = (refl, refl, refl, refl)
 
 -- the moving call is 3 in the book
-pub crowded-moved : book_refusal (moving 6) (record { stops = 6; layout = dense }) ≡ BadTables
+pub crowded-moved : book_refusal (moving 6) (record { stops = 6; layout = dense }) ≡ Err BadTables
 unfolding sum_to join_to list_to all_to same count visits time least extend hops routes least_time quickest ways valid_costs valid_passing filled right rule book_refusal
 crowded-moved = refl
 

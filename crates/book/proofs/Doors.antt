@@ -4,10 +4,9 @@ use mathlib.Core.Path.{◌≡◌, refl, sym, ◌∙◌, ap}
 use mathlib.Core.Bool.{Bool, true, false, cond, ◌&&◌, and-false}
 use Rattle.routes.proofs.Booleans.{both}
 use Rattle.book.specs.Hall.{Tables, most_stops, most_ways, scale, up_to, filled, sized, valid_passing, right}
-use Rattle.book.specs.Call.{Call, audit, accepted, need, Answer, refused_at, Rule, rule, chain, refusal, after, answer, Done}
+use Rattle.book.specs.Call.{Call, audit, accepted, need, Answer, refused_at, Rule, rule, chain, refusal, after, answer, Done, Accepted, Outcome}
 use Rattle.book.specs.Contract.{of_refusal, door_tests, Inside, Audited}
-use Rattle.book.specs.declared.Refusal.{Refusal}
-use Rattle.book.specs.declared.Refusal.TheVariants.{Accepted, BadSize, BadLength, BadTables, BadPassing}
+use Rattle.book.specs.declared.Refusal.TheVariants.{BadSize, BadLength, BadTables, BadPassing}
 use Rattle.book.proofs.Filled.{right-true}
 use Rattle.book.proofs.Answers.{done-refusal}
 use Rattle.book.proofs.Passed.{chain-true}
@@ -18,17 +17,17 @@ abbrev brief : ℕ → Tables → Bool
 brief n t = valid_passing n t.layout.passing
 
 -- what passes the door and test 3 was let in, and is sound
-pub tests-passed : (n : ℕ) (t : Tables) (sound : Bool) {r : Refusal} → r ≡ chain n (sized n t) (brief n t) sound Accepted → accepted r ≡ true → Inside n t × (sound ≡ true)
+pub tests-passed : (n : ℕ) (t : Tables) (sound : Bool) {r : Outcome} → r ≡ chain n (sized n t) (brief n t) sound Accepted → accepted r ≡ true → Inside n t × (sound ≡ true)
 tests-passed n t sound e ok =
     let (size, lengths, passable, found, tests) = chain-true n (sized n t) (brief n t) sound Accepted (ap accepted (sym e) ∙ ok) in
     (record { size = size; lengths = lengths; passable = passable }, found)
 
 -- the door lets in what it should
-pub door-passed : (n : ℕ) (t : Tables) {r : Refusal} → r ≡ door_tests n t → accepted r ≡ true → Inside n t
+pub door-passed : (n : ℕ) (t : Tables) {r : Outcome} → r ≡ door_tests n t → accepted r ≡ true → Inside n t
 door-passed n t e ok = (tests-passed n t true e ok).0
 
 -- what the door refuses, the door and test 3 refuse
-pub three-shut : (n : ℕ) (t : Tables) (sound : Bool) {r : Refusal} → r ≡ door_tests n t → accepted r ≡ false → r ≡ chain n (sized n t) (brief n t) sound Accepted
+pub three-shut : (n : ℕ) (t : Tables) (sound : Bool) {r : Outcome} → r ≡ door_tests n t → accepted r ≡ false → r ≡ chain n (sized n t) (brief n t) sound Accepted
 three-shut n t sound e shut = e ∙ go (up_to most_stops n) (sized n t) (brief n t) (ap accepted (sym e) ∙ shut)
   where
     go : (size long passable : Bool) → accepted (need size BadSize (need long BadLength (need passable BadPassing Accepted))) ≡ false →
@@ -40,7 +39,7 @@ three-shut n t sound e shut = e ∙ go (up_to most_stops n) (sized n t) (brief n
     go true true true shut = absurd (both refl shut)
 
 -- the audit is the door and test 3
-module _ (n : ℕ) (t : Tables) {t' : Tables} {r : Refusal} (d : Done (record { n = n; ask = audit }) t t' (of_refusal r)) where
+module _ (n : ℕ) (t : Tables) {t' : Tables} {r : Outcome} (d : Done (record { n = n; ask = audit }) t t' (of_refusal r)) where
   pub audit-tests : r ≡ chain n (sized n t) (brief n t) (right scale most_ways n t) Accepted
   unfolding refusal rule
   audit-tests = done-refusal (record { n = n; ask = audit }) t d
@@ -60,7 +59,7 @@ module _ (c : Call) (t : Tables) (fits : sized c.n t ≡ true → (rule c.n c.as
   behind-door i = rw (i.size, i.lengths, fits i.lengths, has, i.passable)
 
   -- it is refused as the door and test 3 refuse
-  pub tests-refused : (x : Refusal) → x ≡ chain c.n (sized c.n t) (brief c.n t) (r.sound t) Accepted → accepted x ≡ false → Done c t t (refused_at x (place_of c t x) (buffer_of c t))
+  pub tests-refused : (x : Outcome) → x ≡ chain c.n (sized c.n t) (brief c.n t) (r.sound t) Accepted → accepted x ≡ false → Done c t t (refused_at x (place_of c t x) (buffer_of c t))
   unfolding refusal
   tests-refused x told shut =
       refused-done c t x (rw has (go (up_to most_stops c.n) (sized c.n t) (brief c.n t) (r.sound t) fits (ap accepted (sym told) ∙ shut)) ∙ sym told) shut
@@ -76,12 +75,12 @@ module _ (c : Call) (t : Tables) (fits : sized c.n t ≡ true → (rule c.n c.as
       go true true true true f shut = absurd (both refl shut)
 
   -- and as the door alone refuses
-  pub door-refused : (x : Refusal) → x ≡ door_tests c.n t → accepted x ≡ false → Done c t t (refused_at x (place_of c t x) (buffer_of c t))
+  pub door-refused : (x : Outcome) → x ≡ door_tests c.n t → accepted x ≡ false → Done c t t (refused_at x (place_of c t x) (buffer_of c t))
   door-refused x e shut = tests-refused x (three-shut c.n t (r.sound t) e shut) shut
 
   -- one that audits is refused as the audit refuses
   module _ (audits : r.sound t ≡ right scale most_ways c.n t) where
-    pub audit-refused : {t' : Tables} (x : Refusal) → Done (record { n = c.n; ask = audit }) t t' (of_refusal x) → accepted x ≡ false → Done c t t (refused_at x (place_of c t x) (buffer_of c t))
+    pub audit-refused : {t' : Tables} (x : Outcome) → Done (record { n = c.n; ask = audit }) t t' (of_refusal x) → accepted x ≡ false → Done c t t (refused_at x (place_of c t x) (buffer_of c t))
     audit-refused x d shut = tests-refused x (rw audits (audit-tests c.n t d)) shut
 
     -- behind the audit come its own tests

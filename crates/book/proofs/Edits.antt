@@ -10,10 +10,9 @@ use Rattle.routes.proofs.Sums.{all-cong}
 use Rattle.routes.proofs.Touched.{same_entries, untouched, touched-row}
 use Rattle.routes.proofs.Shared.{open-share, open-ways}
 use Rattle.book.specs.Hall.{Layout, most_ways, scale, table, entry, filled, touched, costs_in}
-use Rattle.book.specs.Call.{Call, edit, accepted, cost_set, with_edit, rule, refusal, after, answer}
+use Rattle.book.specs.Call.{Call, edit, accepted, cost_set, with_edit, rule, refusal, after, answer, Accepted}
 use Rattle.book.specs.Book.{Book, tables_of, EditFacts, changed}
 use Rattle.book.specs.declared.Edit.{Edit}
-use Rattle.book.specs.declared.Refusal.TheVariants.{Accepted}
 use Rattle.book.proofs.Tables.{entry-table, only_set}
 use Rattle.book.proofs.Passed.{Permitted, permitted}
 use Rattle.book.proofs.Steps.{Held, entry-edited, held-edited, accepted-book, refusal-book}

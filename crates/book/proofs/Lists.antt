@@ -1,6 +1,7 @@
 -- An accepted list of edits: it names the union of what its edits touch, rows outside the union stay, and the scores move by what the
 -- shares inside it move. Any list on right tables does what its edits do one after another, up to the first that is refused.
 -- Assumes nothing.
+use Rattle.std.specs.Prelude.{Err}
 use Prim.Native.Nat.{ℕ, ◌+◌, ◌<◌, ◌≤◌}
 use mathlib.Core.Path.{◌≡◌, refl, sym, ◌∙◌, ap}
 use mathlib.Core.Bool.{Bool, true, false, cond, ◌&&◌, ◌||◌, and-false, or-false}
@@ -13,12 +14,11 @@ use borrow.Author.Tests.{eq-eqb, lt-ltb, le-leb, lt-leb}
 use Rattle.routes.proofs.Booleans.{both}
 use Rattle.routes.proofs.Bits.{has-set_of}
 use Rattle.book.specs.Hall.{Layout, Tables, most_stops, most_edits, most_ways, scale, filled, right, touched}
-use Rattle.book.specs.Call.{Call, audit, edit, edit_list, number, accepted, with_edit, edit_refusal, run, with_edits, touched_by, Verdict, judged, of_an_edit, Answer, refused_at, names, Rule, rule, reply, refusal, after, answer}
+use Rattle.book.specs.Call.{Call, audit, edit, edit_list, number, accepted, with_edit, edit_refusal, run, with_edits, touched_by, Verdict, judged, of_an_edit, Answer, refused_at, names, Rule, rule, reply, refusal, after, answer, Accepted, Outcome}
 use Rattle.book.specs.Book.{Book, tables_of, SetFacts, changed}
 use Rattle.book.specs.Contract.{Audited}
 use Rattle.book.specs.declared.Edit.{Edit}
-use Rattle.book.specs.declared.Refusal.{Refusal}
-use Rattle.book.specs.declared.Refusal.TheVariants.{Accepted, ListTooLong}
+use Rattle.book.specs.declared.Refusal.TheVariants.{ListTooLong}
 use Rattle.book.proofs.Filled.{sized-filled, right-filled, right-true}
 use Rattle.book.proofs.Passed.{need-true, accepted-only, passed, audited, up-to, permitted, judged-true, brief}
 use Rattle.book.proofs.Answers.{answer-refusal, reply-either}
@@ -49,7 +49,7 @@ listed-rule : (n : ℕ) (edits : List Edit) (lay : Layout) → Held n lay → ac
     SetFacts n (touched_by n edits lay) (filled scale most_ways n lay) (filled scale most_ways n (with_edits n edits lay)) (rule n (edit_list edits) lay).says
 unfolding rule
 listed-rule n edits lay h ok =
-    let (short, judged) = need-true (leb (length edits) most_edits) ListTooLong _ refl ok in
+    let (short, judged) = need-true (leb (length edits) most_edits) ListTooLong _ ok in
     set-facts n (touched_by n edits lay) lay (with_edits n edits lay) 0 (up-to most_stops n h.size).1 (list-stays n 1 edits lay h judged)
 
 -- and for every accepted list on the tables of a book
@@ -193,7 +193,7 @@ list-facts n edits t ok =
     rw ok (rw same at (listed-rule n edits t.layout (held-right n t size lengths (brief (list n edits) t ok) sound) tests))
 
 -- refused with 1, 2, 13, 3 or 12, and with whatever is no refusal of an edit, a list tells no place
-pub list-unplaced : (n : ℕ) (edits : List Edit) (t : Tables) → let r : Refusal = refusal (list n edits) t in
+pub list-unplaced : (n : ℕ) (edits : List Edit) (t : Tables) → let r : Outcome = refusal (list n edits) t in
     (ltb (number r) 4 || ltb 8 (number r)) ≡ true → (answer (list n edits) t).place ≡ 0
 unfolding answer rule
 list-unplaced n edits t e =
@@ -201,7 +201,7 @@ list-unplaced n edits t e =
 
 -- 12 comes behind 3 and before the edits
 pub list-long : (n : ℕ) (edits : List Edit) (t : Tables) → Audited n t → most_edits < length edits →
-    (refusal (list n edits) t ≡ ListTooLong) × ((answer (list n edits) t).place ≡ 0) × (after (list n edits) t ≡ t)
+    (refusal (list n edits) t ≡ Err ListTooLong) × ((answer (list n edits) t).place ≡ 0) × (after (list n edits) t ≡ t)
 unfolding refusal after answer rule
 list-long n edits t sound long = rw (sound.inside.size, sound.inside.lengths, sound.inside.passable, sound.sound, lt-leb (length edits) most_edits long) (refl, refl, refl)
 
@@ -242,7 +242,7 @@ module _ (n : ℕ) (e : Edit) (t : Tables) where
   same-sources i s = or-false (touched n t.layout (with_edit n e t.layout) e.u e.v s) i
 
   -- what the two say, by their common refusal
-  same_set : (r : Refusal) → let a : Answer = reply r (rule n (edit_list (e ∷ [])) t.layout) in let b : Answer = reply r (rule n (edit e) t.layout) in
+  same_set : (r : Outcome) → let a : Answer = reply r (rule n (edit_list (e ∷ [])) t.layout) in let b : Answer = reply r (rule n (edit e) t.layout) in
       (a.touched ≡ b.touched) × (a.rows ≡ b.rows)
   unfolding rule
   same_set r = go (accepted r)

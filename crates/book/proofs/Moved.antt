@@ -1,4 +1,5 @@
 -- Halls of the old numbers, which have no passing times, and what the moving call says to them, computed. Assumes nothing.
+use Rattle.std.specs.Prelude.{Err}
 use mathlib.Core.Path.{◌≡◌, refl}
 use mathlib.Core.Bool.{◌||◌}
 use mathlib.Core.List.{List, [], ◌∷◌, map}
@@ -34,8 +35,8 @@ abbrev pub more : Layout
 more = towards 7 (λ u. eqb u 1 || (eqb u 2 || (eqb u 3 || eqb u 5)))
 
 pub limits-told :
-    (refusal (moving 6) (filled old_scale old_most_ways 6 thirteen) ≡ TooManyWays) × (refusal (moving 7) (filled old_scale old_most_ways 7 most) ≡ TooManyWays) ×
-    (refusal (moving 7) (filled old_scale old_most_ways 7 more) ≡ BadTables)
+    (refusal (moving 6) (filled old_scale old_most_ways 6 thirteen) ≡ Err TooManyWays) × (refusal (moving 7) (filled old_scale old_most_ways 7 most) ≡ Err TooManyWays) ×
+    (refusal (moving 7) (filled old_scale old_most_ways 7 more) ≡ Err BadTables)
 unfolding join_to list_to all_to count visits time least extend hops routes least_time quickest ways valid_costs uncrowded
 limits-told = (old-told 6 thirteen refl refl refl, old-told 7 most refl refl refl, old-told 7 more refl refl refl)
 

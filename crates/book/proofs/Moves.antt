@@ -1,5 +1,6 @@
 -- The moving call: it divides the shares and scores of a hall of the old scale and limit, and leaves what a work out leaves; and what
 -- it says to the tables of a book. Assumes nothing.
+use Rattle.std.specs.Prelude.{Err}
 use Prim.Native.Nat.{ℕ, ◌+◌, ◌*◌, ◌/◌, ◌<◌, ◌≤◌}
 use native.Mathlib.Nat.{mul-div_cancel_left}
 use native.Mathlib.Decide.{ℕ_discrete}
@@ -19,9 +20,9 @@ use Rattle.routes.proofs.Between.{none-back, none_between, none-through}
 use Rattle.routes.proofs.Rows.{length-list_to, get_or-list_to, list_to-of, list_to-cong}
 use Rattle.routes.proofs.Scales.{share-scaled, share-more}
 use Rattle.book.specs.Hall.{Layout, Tables, most_stops, most_ways, scale, old_most_ways, old_scale, old_per_new, divided, up_to, table, entry, filled, sized, valid_costs, crowded_pair, uncrowded, right, costs_in, links_alone}
-use Rattle.book.specs.Call.{Call, move_over, work_out, accepted, need, rule, refusal, after, with_layout}
+use Rattle.book.specs.Call.{Call, move_over, work_out, accepted, need, rule, refusal, after, with_layout, Accepted}
 use Rattle.book.specs.Book.{Book, tables_of, book_refusal, book_after}
-use Rattle.book.specs.declared.Refusal.TheVariants.{Accepted, BadTables, TooManyWays}
+use Rattle.book.specs.declared.Refusal.TheVariants.{BadTables, TooManyWays}
 use Rattle.book.proofs.Tables.{length-table, entry-table, table_of, table-cong}
 use Rattle.book.proofs.Filled.{sized-filled, right-filled, right-true}
 use Rattle.book.proofs.Passed.{need-true, passed, audited}
@@ -128,7 +129,7 @@ module _ (n : ℕ) (t : Tables) (alone : t.layout ≡ links_alone n t.layout) (o
   unfolding rule
   move-few =
       subst⁻¹ (λ l. uncrowded most_ways n l ≡ true) alone
-      (need-true (uncrowded most_ways n (links_alone n t.layout)) TooManyWays Accepted refl (passed (moving n) t ok).2).0
+      (need-true (uncrowded most_ways n (links_alone n t.layout)) TooManyWays Accepted (passed (moving n) t ok).2).0
 
   pub move-held : Held n t.layout
   move-held = let (size, lengths, tests) = passed (moving n) t ok in subst⁻¹ (Held n) alone (held-old n t size lengths (audited (moving n) t ok))
@@ -261,18 +262,18 @@ module _ (b : Book) (h : Held b.stops b.layout) where
       go true e = rw (few-alone e)
       go false e = refl
 
-  pub move-three : (s v : ℕ) → s < N → v < N → 0 < entry N (tables_of b).share s v → book_refusal (moving N) b ≡ BadTables
+  pub move-three : (s v : ℕ) → s < N → v < N → 0 < entry N (tables_of b).share s v → book_refusal (moving N) b ≡ Err BadTables
   move-three s v k l some = told-book ∙ go alike refl
     where
-      go : (x : Bool) → alike ≡ x → need x BadTables Accepted ≡ BadTables
+      go : (x : Bool) → alike ≡ x → need x BadTables Accepted ≡ Err BadTables
       go true e = let (old, few) = parts e in absurd (omega (arith, some, same-entry old s v k l, no_old old s v k l))
       go false e = refl
 
   -- also where every share is 0
-  pub crowded-three : (s t : ℕ) → s < N → t < N → crowded_pair most_ways N b.layout s t ≡ true → book_refusal (moving N) b ≡ BadTables
+  pub crowded-three : (s t : ℕ) → s < N → t < N → crowded_pair most_ways N b.layout s t ≡ true → book_refusal (moving N) b ≡ Err BadTables
   crowded-three s t k l full = told-book ∙ go alike refl
     where
-      go : (x : Bool) → alike ≡ x → need x BadTables Accepted ≡ BadTables
+      go : (x : Bool) → alike ≡ x → need x BadTables Accepted ≡ Err BadTables
       go true e =
           let many = ltb-true most_ways (ways (costs_in N b.layout s) N s t) full in
           absurd (omega (arith, many, same-ways N b.layout (parts e).0 s t k l, one_way e s t k l))

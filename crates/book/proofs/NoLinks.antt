@@ -1,16 +1,12 @@
 -- The cost table of a hall without links: its costs are valid. Assumes nothing.
-use Prim.Native.Nat.{ℕ, zero, suc, ◌+◌, ◌*◌, ◌<◌, ◌≤◌}
-use mathlib.Core.Path.{◌≡◌, refl, ◌∙◌}
-use mathlib.Core.Bool.{Bool, true, false, cond, ◌&&◌}
-use mathlib.Core.List.{List, [], ◌∷◌}
+use Prim.Native.Nat.{ℕ, ◌+◌, ◌*◌}
+use mathlib.Core.Path.{◌≡◌, refl}
+use mathlib.Core.Bool.{Bool, true, false}
 use native.Mathlib.Omega.{arith}
-use lib.Dec.{eqb, ltb}
+use lib.Dec.{ltb}
 use lib.ListN.{replicate, length-replicate, get_or-replicate, get_or-eq_default}
-use borrow.Author.Tests.{le-leb, ltb-true, ltb-false}
-use Rattle.routes.specs.Route.{Costs, sum_to, count, time, hops, routes, least_time, quickest, ways}
-use Rattle.routes.proofs.Sums.{all_of, sum_to-zero}
-use Rattle.routes.proofs.Counting.{count-join}
-use Rattle.book.specs.Hall.{entry, costs_in, valid_costs, no_links}
+use borrow.Author.Tests.{ltb-true, ltb-false}
+use Rattle.book.specs.Hall.{entry, valid_costs}
 use Rattle.book.proofs.Tables.{costs-valid}
 
 -- no entry

@@ -1,4 +1,5 @@
 -- Which refusals of a list tell a place: those of its edits. Assumes nothing.
+use Rattle.std.specs.Prelude.{Ok, Err}
 use Prim.Native.Nat.{ℕ, ◌+◌}
 use mathlib.Core.Path.{◌≡◌, refl}
 use mathlib.Core.Bool.{Bool, true, false, cond, ◌||◌}
@@ -6,18 +7,18 @@ use mathlib.Core.List.{List, [], ◌∷◌}
 use lib.Dec.{eqb, ltb}
 use Rattle.routes.proofs.Booleans.{both}
 use Rattle.book.specs.Hall.{Layout, largest_cost, up_to, entry, valid_pair}
-use Rattle.book.specs.Call.{number, accepted, need, other_cost_tests, cost_tests, with_edit, edit_refusal, Verdict, judged, of_an_edit}
+use Rattle.book.specs.Call.{number, accepted, need, other_cost_tests, cost_tests, with_edit, edit_refusal, Verdict, judged, of_an_edit, Accepted, Outcome}
 use Rattle.book.specs.declared.Edit.{Edit}
 use Rattle.book.specs.declared.Kind.{Kind}
 use Rattle.book.specs.declared.Kind.TheVariants.{Insert, Cheapen, Raise, Delete}
 use Rattle.book.specs.declared.Refusal.{Refusal}
-use Rattle.book.specs.declared.Refusal.TheVariants.{Accepted, BadSize, BadLength, BadTables, BadStop, BadCost, LinkPresent, LinkAbsent, CostWrongSide, BadImage, ShortBuffer, TooManyWays, ListTooLong, BadPassing, CrowdedPair}
+use Rattle.book.specs.declared.Refusal.TheVariants.{BadSize, BadLength, BadTables, BadStop, BadCost, LinkPresent, LinkAbsent, CostWrongSide, BadImage, ShortBuffer, TooManyWays, ListTooLong, BadPassing, CrowdedPair}
 
 -- a refusal that is an edit's, or acceptance
-pub record Told (r : Refusal) : Type 0 where
+pub record Told (r : Outcome) : Type 0 where
   pub tells : accepted r ≡ false → of_an_edit r ≡ true
 
-need-told : (p : Bool) (r : Refusal) {next : Refusal} → of_an_edit r ≡ true → Told next → Told (need p r next)
+need-told : (p : Bool) (r : Refusal) {next : Outcome} → of_an_edit (Err r) ≡ true → Told next → Told (need p r next)
 need-told true r e f = f
 need-told false r e f = record { tells = λ shut. e }
 
@@ -51,22 +52,22 @@ pub edit-tells : (n k : ℕ) (edits : List Edit) (lay : Layout) → accepted (ju
 edit-tells n k edits lay shut = (judged-told n k edits lay).tells shut
 
 -- for 1, 2, 3 and those from 9 on none is told
-pub none_told : (r : Refusal) (place : ℕ) → (ltb (number r) 4 || ltb 8 (number r)) ≡ true → cond (of_an_edit r) place 0 ≡ 0
-none_told Accepted place e = refl
-none_told BadSize place e = refl
-none_told BadLength place e = refl
-none_told BadTables place e = refl
-none_told BadStop place e = absurd (both e refl)
-none_told BadCost place e = absurd (both e refl)
-none_told LinkPresent place e = absurd (both e refl)
-none_told LinkAbsent place e = absurd (both e refl)
-none_told CostWrongSide place e = absurd (both e refl)
-none_told BadImage place e = refl
-none_told ShortBuffer place e = refl
-none_told TooManyWays place e = refl
-none_told ListTooLong place e = refl
-none_told BadPassing place e = refl
-none_told CrowdedPair place e = refl
+pub none_told : (r : Outcome) (place : ℕ) → (ltb (number r) 4 || ltb 8 (number r)) ≡ true → cond (of_an_edit r) place 0 ≡ 0
+none_told (Ok tt) place e = refl
+none_told (Err BadSize) place e = refl
+none_told (Err BadLength) place e = refl
+none_told (Err BadTables) place e = refl
+none_told (Err BadStop) place e = absurd (both e refl)
+none_told (Err BadCost) place e = absurd (both e refl)
+none_told (Err LinkPresent) place e = absurd (both e refl)
+none_told (Err LinkAbsent) place e = absurd (both e refl)
+none_told (Err CostWrongSide) place e = absurd (both e refl)
+none_told (Err BadImage) place e = refl
+none_told (Err ShortBuffer) place e = refl
+none_told (Err TooManyWays) place e = refl
+none_told (Err ListTooLong) place e = refl
+none_told (Err BadPassing) place e = refl
+none_told (Err CrowdedPair) place e = refl
 
 -- one that is refused at no edit has the place 0
 pub accepted-place : (n k : ℕ) (edits : List Edit) (lay : Layout) → accepted (judged n k edits lay).refusal ≡ true → (judged n k edits lay).place ≡ 0

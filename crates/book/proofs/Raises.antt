@@ -1,16 +1,15 @@
 -- What operators said in two edits, a delete and an insert at a higher cost, a raise says in one. Assumes nothing.
 use Prim.Native.Nat.{ℕ, ◌+◌, ◌*◌, ◌<◌}
-use mathlib.Core.Path.{◌≡◌, refl, sym, ◌∙◌, ap}
-use mathlib.Core.Bool.{true}
+use mathlib.Core.Path.{◌≡◌, sym, ◌∙◌, ap}
 use lib.Dec.{ltb}
 use lib.Seq.{set-set}
 use borrow.Author.Tests.{lt-ltb}
 use Rattle.book.specs.Hall.{Layout, Tables, most_ways, largest_cost, scale, up_to, entry, filled, valid_pair, laid}
-use Rattle.book.specs.Call.{Call, edit, rule, refusal, after, with_cost}
+use Rattle.book.specs.Call.{Call, edit, rule, refusal, after, with_cost, Accepted}
 use Rattle.book.specs.declared.Edit.{Edit}
 use Rattle.book.specs.declared.Kind.{Kind}
 use Rattle.book.specs.declared.Kind.TheVariants.{Insert, Raise, Delete}
-use Rattle.book.specs.declared.Refusal.TheVariants.{Accepted, BadStop, BadCost, LinkAbsent}
+use Rattle.book.specs.declared.Refusal.TheVariants.{BadStop, BadCost, LinkAbsent}
 use Rattle.book.proofs.Passed.{need-true, passed, audited, brief}
 use Rattle.book.proofs.Steps.{accepted-filled}
 use Rattle.book.proofs.Calls.{edit-taken}
@@ -46,11 +45,11 @@ module _ (n u v c x : ℕ) (t : Tables) where
     unfolding rule filled
     taken =
         let (size, lengths, tests) = passed (call Delete x) t deleted in
-        let (pair, tests₁) = need-true (valid_pair n u v) BadStop _ refl tests in
-        let (there, tests₂) = need-true (ltb 0 (entry n t.layout.cost u v)) LinkAbsent _ refl tests₁ in
+        let (pair, tests₁) = need-true (valid_pair n u v) BadStop _ tests in
+        let (there, tests₂) = need-true (ltb 0 (entry n t.layout.cost u v)) LinkAbsent _ tests₁ in
         let (size', lengths', more-tests) = passed (call Insert c) shut behind in
-        let (pair', more-tests₁) = need-true (valid_pair n u v) BadStop _ refl more-tests in
-        let (fits, more-tests₂) = need-true (up_to largest_cost c) BadCost _ refl more-tests₁ in
+        let (pair', more-tests₁) = need-true (valid_pair n u v) BadStop _ more-tests in
+        let (fits, more-tests₂) = need-true (up_to largest_cost c) BadCost _ more-tests₁ in
         edit-taken n (change Raise c) t size lengths (brief (call Delete x) t deleted) (audited (call Delete x) t deleted) pair (rw (fits, there, lt-ltb (entry n t.layout.cost u v) c more))
 
     -- where both are accepted, so is the raise, and it leaves what they left

@@ -4,18 +4,17 @@ use mathlib.Core.Path.{◌≡◌, refl, sym, ◌∙◌, ap}
 use mathlib.Core.Bool.{Bool, true, false, cond}
 use mathlib.Core.List.{List}
 use Rattle.book.specs.Hall.{Layout, laid, links_alone, Tables, most_ways, scale, filled}
-use Rattle.book.specs.Call.{Ask, empty_hall, audit, move_over, work_out, edit, edit_list, list_routes, image_write, image_read, Call, accepted, Answer, refused_at, rule, with_layout, refusal, after, answer, Done}
+use Rattle.book.specs.Call.{Ask, empty_hall, audit, move_over, work_out, edit, edit_list, list_routes, image_write, image_read, Call, accepted, Answer, refused_at, rule, with_layout, refusal, after, answer, Done, Outcome}
 use Rattle.book.specs.Book.{Step, lent, kept}
 use Rattle.book.proofs.Answers.{done-refusal}
 use Rattle.book.specs.declared.Edit.{Edit}
-use Rattle.book.specs.declared.Refusal.{Refusal}
 
 -- the buffer that a call is lent
 abbrev pub buffer_of : Call → Tables → List ℕ
 buffer_of c t = (rule c.n c.ask t.layout).lent_buffer
 
 -- the place that a refusal of it tells
-abbrev pub place_of : Call → Tables → Refusal → ℕ
+abbrev pub place_of : Call → Tables → Outcome → ℕ
 place_of c t r = (rule c.n c.ask t.layout).place r
 
 -- tables and buffer as found, an empty set, no rows, no cost before, length 0
@@ -47,7 +46,7 @@ refused-unchanged c t t' a d closed =
     }
 
 -- and the other way round: this is all that a refused call has to do
-pub refused-done : (c : Call) (t : Tables) (r : Refusal) → refusal c t ≡ r → accepted r ≡ false → Done c t t (refused_at r (place_of c t r) (buffer_of c t))
+pub refused-done : (c : Call) (t : Tables) (r : Outcome) → refusal c t ≡ r → accepted r ≡ false → Done c t t (refused_at r (place_of c t r) (buffer_of c t))
 unfolding after
 refused-done c t r e f = record { left = rw (e, f); answered = sym (refused-answer c t (rw e f) ∙ ap (λ r. refused_at r (place_of c t r) (buffer_of c t)) e) }
 

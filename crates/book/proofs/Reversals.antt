@@ -7,13 +7,12 @@ use lib.Seq.{set-set, set-get_or}
 use borrow.Author.Tests.{eqb-true, eq-eqb, ltb-true, lt-ltb, le-leb}
 use Rattle.routes.specs.Route.{used}
 use Rattle.book.specs.Hall.{Layout, Tables, largest_cost, most_ways, scale, up_to, entry, filled, valid_pair, right, touched, laid, costs_in}
-use Rattle.book.specs.Call.{Call, edit, accepted, other_cost_tests, cost_tests, cost_set, with_edit, rule, refusal, after, answer, reverse_kind, reversal}
+use Rattle.book.specs.Call.{Call, edit, accepted, other_cost_tests, cost_tests, cost_set, with_edit, rule, refusal, after, answer, reverse_kind, reversal, Accepted}
 use Rattle.book.specs.Book.{Reverses}
 use Rattle.book.specs.declared.Edit.{Edit}
 use Rattle.book.specs.declared.Kind.{Kind}
 use Rattle.book.specs.declared.Kind.TheVariants.{Insert, Cheapen, Raise, Delete}
-use Rattle.book.specs.declared.Refusal.{Refusal}
-use Rattle.book.specs.declared.Refusal.TheVariants.{Accepted, BadStop, BadCost, LinkPresent, LinkAbsent}
+use Rattle.book.specs.declared.Refusal.TheVariants.{BadStop, BadCost, LinkPresent, LinkAbsent}
 use Rattle.book.proofs.Tables.{valid-costs}
 use Rattle.book.proofs.Filled.{sized-filled, right-filled, right-true}
 use Rattle.book.proofs.Passed.{need-true, passed, audited, up-to, other-cost-tests, Permitted, permitted, brief}
@@ -34,13 +33,13 @@ other-cost-back wanted c present most e =
 cost-back : (k : Kind) (c present : ℕ) → present ≤ largest_cost → accepted (cost_tests k c present) ≡ true →
     (cost_tests (reverse_kind k) present (cost_set k c) ≡ Accepted) × (cost_set (reverse_kind k) present ≡ present)
 cost-back Insert c present most e =
-    let (bounds, e₁) = need-true (up_to largest_cost c) BadCost _ refl e in
-    let (absent, e₂) = need-true (eqb present 0) LinkPresent Accepted refl e₁ in
+    let (bounds, e₁) = need-true (up_to largest_cost c) BadCost _ e in
+    let (absent, e₂) = need-true (eqb present 0) LinkPresent Accepted e₁ in
     (rw (lt-ltb 0 c (up-to largest_cost c bounds).0), sym (eqb-true present 0 absent))
 cost-back Cheapen c present most e = (other-cost-back (ltb c present) c present most e, refl)
 cost-back Raise c present most e = (other-cost-back (ltb present c) c present most e, refl)
 cost-back Delete c present most e =
-    let (there, e₁) = need-true (ltb 0 present) LinkAbsent Accepted refl e in
+    let (there, e₁) = need-true (ltb 0 present) LinkAbsent Accepted e in
     (rw (cost-fits present (ltb-true 0 present there) most), refl)
 
 -- an edit that passes its tests, over the costs of a hall
@@ -66,13 +65,13 @@ module _ (n : ℕ) (e : Edit) (lay : Layout) (h : Held n lay) (ok : accepted (ru
 
   pair : valid_pair n e.u e.v ≡ true
   unfolding rule
-  pair = (need-true (valid_pair n e.u e.v) BadStop _ refl ok).0
+  pair = (need-true (valid_pair n e.u e.v) BadStop _ ok).0
 
   costs : (cost_tests (reverse_kind e.kind) present (cost_set e.kind e.cost) ≡ Accepted) × (cost_set (reverse_kind e.kind) present ≡ present)
   unfolding rule
   costs =
       let most = (valid-costs n lay.cost h.valid).most e.u e.v p.from p.to in
-      cost-back e.kind e.cost present most (need-true (valid_pair n e.u e.v) BadStop _ refl ok).1
+      cost-back e.kind e.cost present most (need-true (valid_pair n e.u e.v) BadStop _ ok).1
 
   -- the cost before at its place again
   back-costs : with_edit n back left ≡ lay

@@ -1,4 +1,5 @@
 -- Demand 3, and what follows from it. Assumes nothing.
+use Rattle.std.specs.Prelude.{Err}
 use Prim.Native.Nat.{ℕ, ◌+◌, ◌<◌}
 use mathlib.Core.Path.{◌≡◌, refl, sym, ◌∙◌, ap, ap₂, subst, subst⁻¹}
 use mathlib.Core.Logic.{◌≢◌}
@@ -10,10 +11,10 @@ use borrow.Author.Tests.{eq-eqb, lt-ltb}
 use Rattle.routes.specs.Route.{sum_to, has}
 use Rattle.routes.proofs.Sums.{sum_to-cong}
 use Rattle.book.specs.Hall.{Layout, Tables, most_stops, most_ways, scale, old_most_ways, old_scale, up_to, entry, filled, sized, right, touched, laid, no_passing, links_alone, valid_passing, crowded_pair, uncrowded}
-use Rattle.book.specs.Call.{Call, empty_hall, move_over, work_out, edit, edit_list, run, touched_by, need, rule, Answer, refusal, after, answer, Done, reversal, with_layout}
+use Rattle.book.specs.Call.{Call, empty_hall, move_over, work_out, edit, edit_list, run, touched_by, need, rule, Answer, refusal, after, answer, Done, reversal, with_layout, Accepted}
 use Rattle.book.specs.Book.{Book, tables_of, book_refusal, book_after, book_answers, Step, calls_of, lent, kept, Sequence, Start, at_empty_hall, at_moved_hall, start_ask, first_layout, first_book, Started, changed, SetFacts, EditFacts, Demand3}
 use Rattle.book.specs.declared.Edit.{Edit}
-use Rattle.book.specs.declared.Refusal.TheVariants.{Accepted, BadTables}
+use Rattle.book.specs.declared.Refusal.TheVariants.{BadTables}
 use Rattle.book.proofs.Filled.{sized-filled, sized-passing}
 use Rattle.book.proofs.Answers.{answer-refusal, book-refusal, done-refusal}
 use Rattle.book.proofs.Refused.{kept-left}
@@ -239,9 +240,9 @@ module _ (from : Start) (N : ℕ) (start : Tables) (begun : Started from N start
       )
 
   -- no call of a sequence but the moving one answers 3
-  pub never-three : (made : List Step) (s : Step) (rest : List Step) → Sequence start (made ++ s ∷ rest) → s.call.ask ≢ move_over → s.answer.refusal ≢ BadTables
+  pub never-three : (made : List Step) (s : Step) (rest : List Step) → Sequence start (made ++ s ∷ rest) → s.call.ask ≢ move_over → s.answer.refusal ≢ Err BadTables
   never-three made s rest all another =
-      at-step from N start begun (λ t. s.answer.refusal ≢ BadTables) made rest s all
+      at-step from N start begun (λ t. s.answer.refusal ≢ Err BadTables) made rest s all
       (λ b N-stops h d bad. never-bad s.call b another (sym (ap (λ a. a.refusal) (answer-made s b h d) ∙ book-refusal s.call b) ∙ bad))
 
   -- a moving call of a sequence leaves the tables as they are; with N it says 3 exactly where they are not also those of the old scale
@@ -268,15 +269,15 @@ module _ (from : Start) (N : ℕ) (start : Tables) (begun : Started from N start
           at-step from N start begun (λ t. s.answer.refusal ≡ need (alike N t) BadTables Accepted) made rest s all (λ b N-stops h d.
           said-book b N-stops h d ∙ told-book b h ∙ ap (λ m. need (alike m (tables_of b)) BadTables Accepted) N-stops)
 
-      pub moved-three : (x v : ℕ) → x < N → v < N → 0 < entry N (run kept made start).share x v → s.answer.refusal ≡ BadTables
+      pub moved-three : (x v : ℕ) → x < N → v < N → 0 < entry N (run kept made start).share x v → s.answer.refusal ≡ Err BadTables
       moved-three x v k l =
-          at-step from N start begun (λ t. 0 < entry N t.share x v → s.answer.refusal ≡ BadTables) made rest s all (λ b N-stops h d some.
+          at-step from N start begun (λ t. 0 < entry N t.share x v → s.answer.refusal ≡ Err BadTables) made rest s all (λ b N-stops h d some.
           said-book b N-stops h d ∙ move-three b h x v (rw N-stops k) (rw N-stops l) (subst (λ m. 0 < entry m (tables_of b).share x v) (sym N-stops) some))
 
-      pub moved-crowded : (x y : ℕ) → x < N → y < N → crowded_pair most_ways N (run kept made start).layout x y ≡ true → s.answer.refusal ≡ BadTables
+      pub moved-crowded : (x y : ℕ) → x < N → y < N → crowded_pair most_ways N (run kept made start).layout x y ≡ true → s.answer.refusal ≡ Err BadTables
       unfolding filled
       moved-crowded x y k l =
-          at-step from N start begun (λ t. crowded_pair most_ways N t.layout x y ≡ true → s.answer.refusal ≡ BadTables) made rest s all (λ b N-stops h d full.
+          at-step from N start begun (λ t. crowded_pair most_ways N t.layout x y ≡ true → s.answer.refusal ≡ Err BadTables) made rest s all (λ b N-stops h d full.
           said-book b N-stops h d ∙ crowded-three b h x y (rw N-stops k) (rw N-stops l) (subst (λ m. crowded_pair most_ways m b.layout x y ≡ true) (sym N-stops) full))
 
   -- a work out on the layout that a sequence leaves is accepted and changes nothing

@@ -1,4 +1,5 @@
 -- One call on the tables of a book: it is refused, leaves and answers what the book says. Assumes nothing.
+use Rattle.std.specs.Prelude.{Ok, Err}
 use Prim.Native.Nat.{ℕ, ◌+◌, ◌*◌, ◌<◌}
 use mathlib.Core.Path.{◌≡◌, refl, ◌∙◌, ap, subst}
 use mathlib.Core.Logic.{◌≢◌}
@@ -10,13 +11,13 @@ use native.Mathlib.Omega.{arith}
 use borrow.Author.Tests.{eqb-true, eq-eqb, ne_eqb, leb-true}
 use Rattle.routes.proofs.Booleans.{both}
 use Rattle.routes.proofs.Sums.{all_of}
-use Rattle.book.specs.Hall.{Layout, laid, Tables, most_stops, most_ways, most_edits, scale, old_most_ways, old_scale, up_to, entry, filled, sized, valid_costs, valid_passing, no_passing, links_alone, no_links, crowded_pair, uncrowded, right, route_list, image_of, is_image, costs_of}
-use Rattle.book.specs.Call.{Ask, empty_hall, audit, move_over, work_out, edit, edit_list, list_routes, image_write, image_read, Call, number, accepted, need, cost_set, with_edit, edit_refusal, run, with_edits, judged, Rule, writing, rule, with_layout, Answer, refusal, after, answer, Done}
+use Rattle.book.specs.Hall.{Layout, laid, Tables, most_stops, most_ways, most_edits, scale, old_most_ways, old_scale, up_to, entry, filled, sized, valid_costs, valid_passing, no_passing, links_alone, no_links, crowded_pair, uncrowded, right, route_list, image_of, is_image}
+use Rattle.book.specs.Call.{Ask, empty_hall, audit, move_over, work_out, edit, edit_list, list_routes, image_write, image_read, Call, number, accepted, need, cost_set, with_edit, edit_refusal, run, with_edits, judged, Rule, writing, rule, with_layout, Answer, refusal, after, answer, Done, Accepted, Outcome}
 use Rattle.book.specs.Book.{Book, tables_of, book_refusal, book_after, book_answer, Step, lent, kept, Sequence}
 use Rattle.book.specs.Contract.{Audited}
 use Rattle.book.specs.declared.Edit.{Edit}
 use Rattle.book.specs.declared.Refusal.{Refusal}
-use Rattle.book.specs.declared.Refusal.TheVariants.{Accepted, BadSize, BadLength, BadTables, BadStop, BadCost, BadImage, ShortBuffer, TooManyWays, ListTooLong, BadPassing, CrowdedPair}
+use Rattle.book.specs.declared.Refusal.TheVariants.{BadSize, BadLength, BadTables, BadStop, BadCost, BadImage, ShortBuffer, TooManyWays, ListTooLong, BadPassing, CrowdedPair}
 use Rattle.book.proofs.Tables.{entry_set, valid-set}
 use Rattle.book.proofs.Images.{length-read, read-valid}
 use Rattle.book.proofs.NoLinks.{valid-none}
@@ -50,7 +51,7 @@ pub worked-held : (n : ℕ) (brought lay : Layout) → let r : Rule = rule n (wo
 unfolding rule
 worked-held n brought lay size fits passable e =
     let (square, long) = (and-eq-true_iff (eqb (length brought.cost) (n * n)) _).0 fits in
-    let (valid, e₁) = need-true (valid_costs n brought.cost) BadCost _ refl e in
+    let (valid, e₁) = need-true (valid_costs n brought.cost) BadCost _ e in
     record { size = size; square = eqb-true _ _ square; long = eqb-true _ _ long; valid = valid; passable = passable }
 
 pub held-worked : (n : ℕ) (brought : Layout) (t : Tables) → Held n brought → sized n t ≡ true → refusal (record { n = n; ask = work_out brought }) t ≡ Accepted
@@ -143,12 +144,12 @@ rule-held n move_over t size lengths fits passable sound e own = own
 rule-held n (work_out brought) t size lengths fits passable sound e own = worked-held n brought t.layout size fits passable e
 rule-held n (edit x) t size lengths fits passable sound e own = held-edited n x t.layout (held-right n t size lengths passable sound) (permitted n x t.layout e)
 rule-held n (edit_list edits) t size lengths fits passable sound e own =
-    let (short, judged) = need-true (leb (length edits) most_edits) ListTooLong _ refl e in
+    let (short, judged) = need-true (leb (length edits) most_edits) ListTooLong _ e in
     held-list n 1 edits t.layout (held-right n t size lengths passable sound) judged
 rule-held n (list_routes s x buffer) t size lengths fits passable sound e own = held-right n t size lengths passable sound
 rule-held n (image_write buffer) t size lengths fits passable sound e own = held-right n t size lengths passable sound
 rule-held n (image_read image passing) t size lengths fits passable sound e own =
-    let (is, e₁) = need-true (is_image n image) BadImage _ refl e in
+    let (is, e₁) = need-true (is_image n image) BadImage _ e in
     record { size = size; square = length-read n image; long = eqb-true _ _ fits; valid = read-valid n image is; passable = passable }
 
 -- so it holds of the layout that any accepted call leaves, on any tables, and its tables are left
@@ -255,7 +256,7 @@ module _ (c : Call) (b : Book) where
     unfolding refusal book_refusal filled
     refusal-book = rw lengths-book (ap (need (up_to most_stops c.n) BadSize) (go ruled.fits (eqb c.n b.stops) refl))
       where
-        behind : Bool → Refusal
+        behind : Bool → Outcome
         behind sound = need (valid_passing c.n ruled.lent.passing) BadPassing (need sound BadTables ruled.tests)
 
         go : (f x : Bool) → eqb c.n b.stops ≡ x →
@@ -369,36 +370,33 @@ module _ (s : Step) (b : Book) (h : Held b.stops b.layout) (d : Done s.call (len
       go false e = refl
 
 -- an answer other than k
-record Other (k : ℕ) (r : Refusal) : Type 0 where
+record Other (k : ℕ) (r : Outcome) : Type 0 where
   apart : eqb (number r) k ≡ false
 
-need-other : {k : ℕ} (p : Bool) (r : Refusal) {next : Refusal} → eqb (number r) k ≡ false → Other k next → Other k (need p r next)
+need-other : {k : ℕ} (p : Bool) (r : Refusal) {next : Outcome} → eqb (number (Err r)) k ≡ false → Other k next → Other k (need p r next)
 need-other true r e f = f
 need-other false r e f = record { apart = e }
 
 -- an answer that is neither 3 nor 11, as every test of a call's own gives but the moving one's
-record Own (r : Refusal) : Type 0 where
+record Own (r : Outcome) : Type 0 where
   three : Other 3 r
   eleven : Other 11 r
 
-need-own : (p : Bool) (r : Refusal) {next : Refusal} → eqb (number r) 3 ≡ false → eqb (number r) 11 ≡ false → Own next → Own (need p r next)
+need-own : (p : Bool) (r : Refusal) {next : Outcome} → eqb (number (Err r)) 3 ≡ false → eqb (number (Err r)) 11 ≡ false → Own next → Own (need p r next)
 need-own p r e f own = record { three = need-other p r e own.three; eleven = need-other p r f own.eleven }
 
 accepted-own : Own Accepted
 accepted-own = record { three = record { apart = refl }; eleven = record { apart = refl } }
 
 -- what only an edit's refusals are
-told-own : (r : Refusal) → Told r → Own r
-told-own r t = go (accepted r) refl
-  where
-    go : (b : Bool) → accepted r ≡ b → Own r
-    go true ok = let none = eqb-true (number r) 0 ok in record { three = record { apart = rw none }; eleven = record { apart = rw none } }
-    go false shut =
-        let (low, high) = (and-eq-true_iff (leb 4 (number r)) (leb (number r) 8)).0 (t.tells shut) in
-        record {
-          three = record { apart = ne_eqb (number r) 3 (λ e. omega (arith, e, leb-true 4 (number r) low)) };
-          eleven = record { apart = ne_eqb (number r) 11 (λ e. omega (arith, e, leb-true (number r) 8 high)) };
-        }
+told-own : (r : Outcome) → Told r → Own r
+told-own (Ok tt) t = accepted-own
+told-own (Err r) t =
+    let (low, high) = (and-eq-true_iff (leb 4 (number (Err r))) (leb (number (Err r)) 8)).0 (t.tells refl) in
+    record {
+      three = record { apart = ne_eqb (number (Err r)) 3 (λ e. omega (arith, e, leb-true 4 (number (Err r)) low)) };
+      eleven = record { apart = ne_eqb (number (Err r)) 11 (λ e. omega (arith, e, leb-true (number (Err r)) 8 high)) };
+    }
 
 -- and those of a call that writes
 writing-own : (n : ℕ) (known full : Bool) (bytes buffer : List ℕ) (lay : Layout) → Own (writing n known full bytes buffer lay).tests
@@ -419,7 +417,7 @@ rule-own n (image_write buffer) lay other = writing-own n true false (image_of n
 rule-own n (image_read image passing) lay other = need-own (is_image n image) BadImage refl refl accepted-own
 
 -- so no call but the moving one says 11, on any tables
-pub never-eleven : (c : Call) (t : Tables) → c.ask ≢ move_over → refusal c t ≢ TooManyWays
+pub never-eleven : (c : Call) (t : Tables) → c.ask ≢ move_over → refusal c t ≢ Err TooManyWays
 unfolding refusal
 never-eleven c t another e =
     let r : Rule = rule c.n c.ask t.layout in
@@ -442,7 +440,7 @@ asks_nothing n (image_write buffer) lay t other = refl
 asks_nothing n (image_read image passing) lay t other = refl
 
 -- so to any other call a book never says 3
-pub never-bad : (c : Call) (b : Book) → c.ask ≢ move_over → book_refusal c b ≢ BadTables
+pub never-bad : (c : Call) (b : Book) → c.ask ≢ move_over → book_refusal c b ≢ Err BadTables
 unfolding book_refusal
 never-bad c b another e =
     let r : Rule = rule c.n c.ask b.layout in

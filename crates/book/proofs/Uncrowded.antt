@@ -2,7 +2,7 @@
 -- those of document 01. Assumes nothing.
 use Prim.Native.Nat.{ℕ, suc, ◌<◌, ◌≤◌, min}
 use native.Mathlib.Omega.{arith}
-use mathlib.Core.Path.{◌≡◌, refl, sym, ◌∙◌, ap}
+use mathlib.Core.Path.{◌≡◌, refl, ◌∙◌, ap}
 use mathlib.Core.Bool.{Bool, true, false, cond, not}
 use lib.Dec.{ltb, leb}
 use borrow.Author.Tests.{le-ltb, le-leb, lt-leb, ltb-true, ltb-false, not-true}
@@ -10,7 +10,7 @@ use Rattle.routes.specs.Route.{Costs, list_to, sum_to, all_to, least_time, ways,
 use Rattle.routes.proofs.Sums.{sum_to-cong, all_true, all_of, all-cong}
 use Rattle.routes.proofs.Rows.{list_to-cong}
 use Rattle.routes.proofs.Shared.{open-share, open-ways}
-use Rattle.book.specs.Hall.{Layout, Tables, table, entry, costs_in, filled, crowded_pair, uncrowded}
+use Rattle.book.specs.Hall.{Layout, table, entry, costs_in, filled, crowded_pair, uncrowded}
 use Rattle.book.proofs.Tables.{entry-table, table-cong}
 
 -- a pair that is not crowded has at most m ways

@@ -2,10 +2,8 @@
 use Rattle.std.specs.Prelude.{ℕ, ◌+◌, ◌<◌, ◌≡◌, Bool, true, false, cond, not, ◌&&◌, List, [], ◌∷◌, ◌++◌, map, eqb, ltb, get_or}
 use Rattle.routes.specs.Route.{sum_to, all_to, has}
 use Rattle.book.specs.Hall.{Layout, laid, Tables, most_ways, scale, entry, filled, valid_passing, no_passing, no_links, uncrowded, touched}
-use Rattle.book.specs.Call.{Ask, empty_hall, move_over, edit, edit_list, Call, Rule, rule, with_layout, Answer, accepted, run, touched_by, chain, reply, refusal, after, answer, Done, reversal}
+use Rattle.book.specs.Call.{Ask, empty_hall, move_over, edit, edit_list, Call, Rule, rule, with_layout, Answer, Outcome, Accepted, accepted, run, touched_by, chain, reply, refusal, after, answer, Done, reversal}
 use Rattle.book.specs.declared.Edit.{Edit}
-use Rattle.book.specs.declared.Refusal.{Refusal}
-use Rattle.book.specs.declared.Refusal.TheVariants.{Accepted}
 
 -- the book (abstract state): N, and the present links and passing times; it reads calls alone
 pub record Book : Type 0 where
@@ -18,7 +16,7 @@ tables_of b = filled scale most_ways b.stops b.layout
 
 -- a call is refused by the same tests: 2 if its n is not N or what it brings does not fit, 13 by the passing times that it is lent, 3 by the
 -- moving call alone, where the tables that the book gives are not also those of the old scale and limit with links alone
-unfoldable pub book_refusal : Call → Book → Refusal
+unfoldable pub book_refusal : Call → Book → Outcome
 book_refusal c b =
     let r : Rule = rule c.n c.ask b.layout in
     chain c.n (r.fits && eqb c.n b.stops) (valid_passing c.n r.lent.passing) (r.sound_in_book (tables_of b)) r.tests

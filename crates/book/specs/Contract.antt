@@ -1,13 +1,15 @@
 -- How contracts name what a call is lent and gives back: the tables and the passing times as it found them and as it left them, and
 -- its answer. Assumes nothing.
-use Rattle.std.specs.Prelude.{ℕ, ◌≡◌, true, cond, List, [], leb, length}
+use Rattle.std.specs.Prelude.{ℕ, ◌≡◌, true, cond, List, [], Result, Ok, Err, leb, length}
 use Rattle.book.specs.Hall.{Layout, laid, Tables, most_stops, most_ways, scale, up_to, sized, valid_passing, no_passing, right}
-use Rattle.book.specs.Call.{Answer, plain, writes, chain}
-use Rattle.book.specs.declared.EditAnswer.{EditAnswer}
-use Rattle.book.specs.declared.ListAnswer.{ListAnswer}
-use Rattle.book.specs.declared.WriteAnswer.{WriteAnswer}
+use Rattle.book.specs.Call.{Outcome, Accepted, Answer, refused_at, plain, writes, chain}
+use Rattle.book.specs.declared.Edited.{Edited}
+use Rattle.book.specs.declared.ListEdited.{ListEdited}
+use Rattle.book.specs.declared.ListRefused.{ListRefused}
 use Rattle.book.specs.declared.Refusal.{Refusal}
-use Rattle.book.specs.declared.Refusal.TheVariants.{Accepted, ShortBuffer}
+use Rattle.book.specs.declared.Refusal.TheVariants.{ShortBuffer}
+use Rattle.book.specs.declared.lent.Lent.{Lent}
+use Rattle.book.specs.declared.lent.LentMut.{LentMut}
 
 -- the tables of these lists
 abbrev pub tables : (cost passing time ways share score : List ℕ) → Tables
@@ -42,25 +44,45 @@ this_layout cost passing = laid cost passing
 abbrev pub found_layout : (cost passing : List ℕ) → Layout
 found_layout cost passing = this_layout cost passing
 
--- an answer as the code gives it: a refusal alone, an edit's, a list's, and that of a call that writes with its buffer
-abbrev pub of_refusal : Refusal → Answer
+-- the tables that are lent together, to be read and to be written
+abbrev pub seen : Lent → Tables
+seen t = tables t.cost.now t.passing.now t.time.now t.ways.now t.share.now t.score.now
+
+abbrev pub held : LentMut → Tables
+held t = tables t.cost.now t.passing.now t.time.now t.ways.now t.share.now t.score.now
+
+-- a call leaves the same loans in the struct, so that what it wrote stands where the host lent it, and the passing times as they were
+pub record SameLoans (t t' : LentMut) : Type 0 where
+  pub cost : t'.cost.ghost_name ≡ t.cost.ghost_name
+  pub passing : t'.passing.now ≡ t.passing.now
+  pub time : t'.time.ghost_name ≡ t.time.ghost_name
+  pub ways : t'.ways.ghost_name ≡ t.ways.ghost_name
+  pub share : t'.share.ghost_name ≡ t.share.ghost_name
+  pub score : t'.score.ghost_name ≡ t.score.ghost_name
+
+-- an answer as the code gives it: of a call that tells nothing more than its refusal, of an edit, of a list, and of a call that writes with
+-- its buffer
+abbrev pub of_refusal : Outcome → Answer
 of_refusal r = plain r []
 
-abbrev pub of_edit : EditAnswer → Answer
-of_edit a = record { refusal = a.refusal; place = 0; touched = a.touched; rows = a.rows; before = a.before; length = 0; buffer = [] }
+abbrev pub of_edit : Result Edited Refusal → Answer
+of_edit (Ok e) = record { refusal = Accepted; place = 0; touched = e.touched; rows = e.rows; before = e.before; length = 0; buffer = [] }
+of_edit (Err r) = plain (Err r) []
 
-abbrev pub of_list : ListAnswer → Answer
-of_list a = record { refusal = a.refusal; place = a.place; touched = a.touched; rows = a.rows; before = 0; length = 0; buffer = [] }
+abbrev pub of_list : Result ListEdited ListRefused → Answer
+of_list (Ok l) = record { refusal = Accepted; place = 0; touched = l.touched; rows = l.rows; before = 0; length = 0; buffer = [] }
+of_list (Err l) = refused_at (Err l.refusal) l.place []
 
-abbrev pub of_write : WriteAnswer → List ℕ → Answer
-of_write a buffer = record { refusal = a.refusal; place = 0; touched = 0; rows = 0; before = 0; length = a.length; buffer = buffer }
+abbrev pub of_write : Result ℕ Refusal → List ℕ → Answer
+of_write (Ok length) buffer = record { refusal = Accepted; place = 0; touched = 0; rows = 0; before = 0; length = length; buffer = buffer }
+of_write (Err r) buffer = plain (Err r) buffer
 
 -- the answer of a call that writes, behind the tests before 10: its bytes at the front of the buffer where they fit, else the buffer as it was
 abbrev pub stored : (bytes buffer : List ℕ) → Answer
-stored bytes buffer = cond (leb (length bytes) (length buffer)) (writes bytes buffer) (plain ShortBuffer buffer)
+stored bytes buffer = cond (leb (length bytes) (length buffer)) (writes bytes buffer) (plain (Err ShortBuffer) buffer)
 
 -- the door: tests 1, 2 and 13 of the lent tables
-abbrev pub door_tests : ℕ → Tables → Refusal
+abbrev pub door_tests : ℕ → Tables → Outcome
 door_tests n t = chain n (sized n t) (valid_passing n t.layout.passing) true Accepted
 
 -- what the door found, and what the audit found behind it

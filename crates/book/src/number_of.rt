@@ -1,34 +1,23 @@
-// The documents' number of a refusal.
-ghost use Rattle.std.specs.Prelude.{◌≡◌};
-ghost use Rattle.book.specs.Call.{number, accepted};
+// The documents' number of a refusal, and of what a call came to.
+ghost use Rattle.std.specs.Prelude.{◌≡◌, Err};
+ghost use Rattle.book.specs.Call.{number};
 
 use super::Refusal;
 
-pub fn number_of(r: Refusal) -> u32
-    ensures { result ≡ number r }
-{
-    match r {
-        Refusal::Accepted => 0,
-        Refusal::BadSize => 1,
-        Refusal::BadLength => 2,
-        Refusal::BadTables => 3,
-        Refusal::BadStop => 4,
-        Refusal::BadCost => 5,
-        Refusal::LinkPresent => 6,
-        Refusal::LinkAbsent => 7,
-        Refusal::CostWrongSide => 8,
-        Refusal::BadImage => 9,
-        Refusal::ShortBuffer => 10,
-        Refusal::TooManyWays => 11,
-        Refusal::ListTooLong => 12,
-        Refusal::BadPassing => 13,
-        Refusal::CrowdedPair => 14,
+impl Refusal {
+    pub fn number(self) -> u32
+        ensures { result ≡ number (Err self) }
+    {
+        self as u32
     }
 }
 
-// Whether a call goes on: no test has refused it.
-pub fn passes(r: Refusal) -> bool
-    ensures { result ≡ accepted r }
+// 0 for an accepted call.
+pub fn number_of(outcome: Result<(), Refusal>) -> u32
+    ensures { result ≡ number outcome }
 {
-    number_of(r) == 0
+    match outcome {
+        Ok(()) => 0,
+        Err(refusal) => refusal.number(),
+    }
 }

@@ -1,2 +1,2 @@
 -- Laws for the proofs of this crate. Assumes nothing.
-pub mod Behind
+pub mod Pointwise

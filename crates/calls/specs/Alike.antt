@@ -1,4 +1,4 @@
--- Two answers with the same numbers. Assumes nothing.
+-- Two answers with the same refusal and the same numbers. Assumes nothing.
 use Rattle.std.specs.Prelude.{◌≡◌}
 use Rattle.calls.specs.declared.answer.Answer.{Answer}
 

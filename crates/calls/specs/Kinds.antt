@@ -1,8 +1,32 @@
--- The kinds of edit by the numbers of the calls that make them. Assumes nothing.
-use Rattle.std.specs.Prelude.{ℕ, cond, ◌==◌}
-use Rattle.book.specs.declared.Kind.{Kind}
-use Rattle.book.specs.declared.Kind.TheVariants.{Insert, Cheapen, Raise, Delete}
+-- What a call of a name asks for, and the name of what a call asks for. Assumes nothing.
+use Rattle.std.specs.Prelude.{ℕ}
+use Rattle.calls.specs.declared.list.List.{List}
+use Rattle.calls.specs.declared.call.Name.{Name}
+use Rattle.calls.specs.declared.call.Name.TheVariants as name
+use Rattle.calls.specs.declared.call.Act.{Act}
+use Rattle.calls.specs.declared.call.Act.TheVariants as act
 
--- it is asked for the numbers of edits alone, 3 to 6
-abbrev pub kind_of : ℕ → Kind
-kind_of number = cond (number == 3) Insert (cond (number == 4) Cheapen (cond (number == 5) Raise Delete))
+-- with two stops, a cost and a list, of which it reads what it brings
+abbrev pub act_of : Name → ℕ → ℕ → ℕ → List → Act
+act_of name.EmptyHall u v cost list = act.EmptyHall
+act_of name.WorkOut u v cost list = act.WorkOut
+act_of name.Audit u v cost list = act.Audit
+act_of (name.Edit kind) u v cost list = act.Edit (record { kind = kind; u = u; v = v; cost = cost })
+act_of name.EditList u v cost list = act.EditList list
+act_of name.ImageWrite u v cost list = act.ImageWrite
+act_of name.ImageRead u v cost list = act.ImageRead
+act_of name.MoveOver u v cost list = act.MoveOver
+act_of name.ListRoutes u v cost list = act.ListRoutes u v
+act_of name.ImageCheck u v cost list = act.ImageCheck
+
+abbrev pub name_of : Act → Name
+name_of act.EmptyHall = name.EmptyHall
+name_of act.WorkOut = name.WorkOut
+name_of act.Audit = name.Audit
+name_of (act.Edit edit) = name.Edit edit.kind
+name_of (act.EditList list) = name.EditList
+name_of act.ImageWrite = name.ImageWrite
+name_of act.ImageRead = name.ImageRead
+name_of act.MoveOver = name.MoveOver
+name_of (act.ListRoutes s t) = name.ListRoutes
+name_of act.ImageCheck = name.ImageCheck

@@ -1,4 +1,6 @@
 -- Definitions that the contracts cite. Assumes nothing.
 pub mod Kinds
+pub mod Answers
 pub mod Alike
 pub mod Lists
+pub mod Rooms

@@ -1,15 +1,15 @@
-// What a call answers, as numbers.
-ghost use Rattle.std.specs.Prelude.{◌≡◌};
-ghost use Rattle.book.specs.Call.{number};
+// What a call answers: its refusal, if it is refused, and numbers.
+ghost use Rattle.std.specs.Prelude.{◌≡◌, ◌↔◌};
+ghost use Rattle.calls.specs.Answers.{number, of_refusal, of_outcome, of_edit, of_list, of_write};
+ghost use Rattle.calls.specs.Alike.{Alike};
 
-use book::number_of::number_of;
-use book::{EditAnswer, ListAnswer, Refusal, WriteAnswer};
+use book::{Edited, ListEdited, ListRefused, Refusal};
 
-// The refusal; of an edit or a list of edits the set of touched sources and their number; of an edit the cost before; of a
-// list the place of the refused edit; of an image write and a route list the length.
-#[derive(Clone, Copy)]
+// Of an edit or a list of edits the set of touched sources and their number; of an edit the cost before; of a list the place
+// of the refused edit; of an image write and a route list the length. A part that a call has no use for is 0, so that two answers are compared part by part.
+#[derive(Clone, Copy, PartialEq, Eq)]
 pub struct Answer {
-    pub refusal: u64,
+    pub refusal: Option<Refusal>,
     pub touched: u64,
     pub rows: u64,
     pub before: u64,
@@ -17,64 +17,103 @@ pub struct Answer {
     pub length: u64,
 }
 
+impl Answer {
+    // An acceptance that says nothing more.
+    pub const ACCEPTED: Answer = Answer {
+        refusal: None,
+        touched: 0,
+        rows: 0,
+        before: 0,
+        place: 0,
+        length: 0,
+    };
+
+    // The documents' number of the refusal, 0 for an accepted call.
+    pub fn number(&self) -> u64
+        ensures { result ≡ number self.now.refusal }
+    {
+        self.refusal
+            .map_or(0, |refusal| u64::from(refusal.number()))
+    }
+
+    // How many of its parts differ from those of another answer: a number, which is added to counts that are printed.
+    pub fn unlike(&self, other: &Answer) -> u64
+        ensures { (result ≡ 0) ↔ Alike self.now other.now }
+    {
+        u64::from(self.refusal != other.refusal)
+            + u64::from(self.touched != other.touched)
+            + u64::from(self.rows != other.rows)
+            + u64::from(self.before != other.before)
+            + u64::from(self.place != other.place)
+            + u64::from(self.length != other.length)
+    }
+}
+
 // A refusal, or an acceptance that says nothing more.
-pub fn of_number(refusal: u64) -> Answer
-    ensures { (result.refusal ≡ refusal) × (result.touched ≡ 0) × (result.rows ≡ 0) × (result.before ≡ 0) × (result.place ≡ 0) × (result.length ≡ 0) }
-{
-    Answer {
-        refusal,
-        touched: 0,
-        rows: 0,
-        before: 0,
-        place: 0,
-        length: 0,
+impl From<Option<Refusal>> for Answer {
+    ghost from_gives = { λ refusal answer. answer ≡ of_refusal refusal };
+
+    fn from(refusal: Option<Refusal>) -> Answer {
+        Answer {
+            refusal,
+            ..Answer::ACCEPTED
+        }
     }
 }
 
-pub fn of_refusal(r: Refusal) -> Answer
-    ensures { (result.refusal ≡ number r) × (result.touched ≡ 0) × (result.rows ≡ 0) × (result.before ≡ 0) × (result.place ≡ 0) × (result.length ≡ 0) }
-{
-    of_number(number_of(r) as u64)
-}
+impl From<Result<(), Refusal>> for Answer {
+    ghost from_gives = { λ outcome answer. answer ≡ of_outcome outcome };
 
-pub fn of_edit(e: EditAnswer) -> Answer
-    ensures { (result.refusal ≡ number e.refusal) × (result.touched ≡ e.touched) × (result.rows ≡ e.rows) × (result.before ≡ e.before) × (result.place ≡ 0) × (result.length ≡ 0) }
-{
-    let refusal = e.refusal;
-    Answer {
-        refusal: number_of(refusal) as u64,
-        touched: e.touched,
-        rows: e.rows as u64,
-        before: e.before as u64,
-        place: 0,
-        length: 0,
+    fn from(outcome: Result<(), Refusal>) -> Answer {
+        Answer::from(outcome.err())
     }
 }
 
-pub fn of_list(l: ListAnswer) -> Answer
-    ensures { (result.refusal ≡ number l.refusal) × (result.touched ≡ l.touched) × (result.rows ≡ l.rows) × (result.before ≡ 0) × (result.place ≡ l.place) × (result.length ≡ 0) }
-{
-    let refusal = l.refusal;
-    Answer {
-        refusal: number_of(refusal) as u64,
-        touched: l.touched,
-        rows: l.rows as u64,
-        before: 0,
-        place: l.place as u64,
-        length: 0,
+impl From<Result<Edited, Refusal>> for Answer {
+    ghost from_gives = { λ outcome answer. answer ≡ of_edit outcome };
+
+    fn from(outcome: Result<Edited, Refusal>) -> Answer {
+        match outcome {
+            Ok(edited) => Answer {
+                touched: edited.touched,
+                rows: u64::from(edited.rows),
+                before: u64::from(edited.before),
+                ..Answer::ACCEPTED
+            },
+            Err(refusal) => Answer::from(Some(refusal)),
+        }
     }
 }
 
-pub fn of_write(w: WriteAnswer) -> Answer
-    ensures { (result.refusal ≡ number w.refusal) × (result.touched ≡ 0) × (result.rows ≡ 0) × (result.before ≡ 0) × (result.place ≡ 0) × (result.length ≡ w.length) }
-{
-    let refusal = w.refusal;
-    Answer {
-        refusal: number_of(refusal) as u64,
-        touched: 0,
-        rows: 0,
-        before: 0,
-        place: 0,
-        length: w.length as u64,
+impl From<Result<ListEdited, ListRefused>> for Answer {
+    ghost from_gives = { λ outcome answer. answer ≡ of_list outcome };
+
+    fn from(outcome: Result<ListEdited, ListRefused>) -> Answer {
+        match outcome {
+            Ok(edited) => Answer {
+                touched: edited.touched,
+                rows: u64::from(edited.rows),
+                ..Answer::ACCEPTED
+            },
+            Err(refused) => Answer {
+                refusal: Some(refused.refusal),
+                place: u64::from(refused.place),
+                ..Answer::ACCEPTED
+            },
+        }
+    }
+}
+
+impl From<Result<usize, Refusal>> for Answer {
+    ghost from_gives = { λ outcome answer. answer ≡ of_write outcome };
+
+    fn from(outcome: Result<usize, Refusal>) -> Answer {
+        match outcome {
+            Ok(length) => Answer {
+                length: length as u64,
+                ..Answer::ACCEPTED
+            },
+            Err(refusal) => Answer::from(Some(refusal)),
+        }
     }
 }

@@ -1,90 +1,103 @@
-// A call: its number and the numbers that it brings.
-ghost use Rattle.std.specs.Prelude.{◌≡◌, ◌&&◌, nat_le};
-ghost use Rattle.calls.specs.Kinds.{kind_of};
+// A call, with what it brings beside the tables and bytes that it is lent.
+ghost use Rattle.std.specs.Prelude.{◌≡◌, ◌<◌};
+ghost use Rattle.calls.specs.Kinds.{act_of, name_of};
 
+use super::list::List;
 use book::{Edit, Kind};
 
-// The calls, by number.
-pub const EMPTY_HALL: u64 = 0;
+// The calls by name, as draws choose them and counts keep them apart.
+#[derive(Clone, Copy, PartialEq, Eq)]
+pub enum Name {
+    EmptyHall,
+    WorkOut,
+    Audit,
+    Edit(Kind),
+    EditList,
+    ImageWrite,
+    ImageRead,
+    MoveOver,
+    ListRoutes,
+    ImageCheck,
+}
 
-pub const WORK_OUT: u64 = 1;
+// What a call asks for.
+#[derive(Clone, Copy)]
+pub enum Act {
+    EmptyHall,
+    WorkOut,
+    Audit,
+    Edit(Edit),
+    EditList(List),
+    ImageWrite,
+    ImageRead,
+    MoveOver,
+    ListRoutes { s: u64, t: u64 },
+    ImageCheck,
+}
 
-pub const AUDIT: u64 = 2;
-
-pub const INSERT: u64 = 3;
-
-pub const CHEAPEN: u64 = 4;
-
-pub const RAISE: u64 = 5;
-
-pub const DELETE: u64 = 6;
-
-pub const EDIT_LIST: u64 = 7;
-
-pub const IMAGE_WRITE: u64 = 8;
-
-pub const IMAGE_READ: u64 = 9;
-
-pub const MOVE_OVER: u64 = 10;
-
-pub const LIST_ROUTES: u64 = 11;
-
-pub const IMAGE_CHECK: u64 = 12;
-
-// How many there are.
-pub const CALLS: usize = 13;
-
-// Only an edit and a route list read u and v, and only an edit that is no delete the cost.
+// For a hall of n stops.
 #[derive(Clone, Copy)]
 pub struct Call {
-    pub number: u64,
     pub n: u64,
-    pub u: u64,
-    pub v: u64,
-    pub cost: u64,
+    pub act: Act,
 }
 
-// A call that brings no stops.
-pub fn plain(number: u64, n: u64) -> Call
-    ensures { (result.number ≡ number) × (result.n ≡ n) }
-{
-    Call {
-        number,
-        n,
-        u: 0,
-        v: 0,
-        cost: 0,
+impl Name {
+    // How many there are, with the kinds of edits apart.
+    pub const COUNT: usize = 13;
+
+    // The place of a name among them.
+    pub fn number(self) -> usize
+        ensures { result < 13 }
+    {
+        match self {
+            Name::EmptyHall => 0,
+            Name::WorkOut => 1,
+            Name::Audit => 2,
+            Name::Edit(kind) => 3 + kind as usize,
+            Name::EditList => 7,
+            Name::ImageWrite => 8,
+            Name::ImageRead => 9,
+            Name::MoveOver => 10,
+            Name::ListRoutes => 11,
+            Name::ImageCheck => 12,
+        }
+    }
+
+    // The call of that name, with what it brings of two stops, a cost and a list.
+    pub fn act(self, u: u64, v: u64, cost: u64, list: List) -> Act
+        ensures { result ≡ act_of self u v cost list }
+    {
+        match self {
+            Name::EmptyHall => Act::EmptyHall,
+            Name::WorkOut => Act::WorkOut,
+            Name::Audit => Act::Audit,
+            Name::Edit(kind) => Act::Edit(Edit { kind, u, v, cost }),
+            Name::EditList => Act::EditList(list),
+            Name::ImageWrite => Act::ImageWrite,
+            Name::ImageRead => Act::ImageRead,
+            Name::MoveOver => Act::MoveOver,
+            Name::ListRoutes => Act::ListRoutes { s: u, t: v },
+            Name::ImageCheck => Act::ImageCheck,
+        }
     }
 }
 
-// Whether a call is an edit of one link: their numbers stand side by side.
-pub fn is_edit(number: u64) -> bool
-    ensures { result ≡ (nat_le 3 number && nat_le number 6) }
-{
-    (INSERT <= number) & (number <= DELETE)
-}
-
-fn kind_of(number: u64) -> Kind
-    ensures { result ≡ kind_of number }
-{
-    match number {
-        INSERT => Kind::Insert,
-        CHEAPEN => Kind::Cheapen,
-        RAISE => Kind::Raise,
-        _ => Kind::Delete,
-    }
-}
-
-// The edit that a call asks for.
-pub fn edit_of(call: Call) -> Edit
-    ensures u_value { (result.u ≡ call.u) × (result.v ≡ call.v) × (result.cost ≡ call.cost) }
-    ensures kind_value { result.kind ≡ kind_of call.number }
-{
-    let kind = kind_of(call.number);
-    Edit {
-        kind,
-        u: call.u,
-        v: call.v,
-        cost: call.cost,
+impl Act {
+    pub fn name(self) -> Name
+        ensures { result ≡ name_of self }
+    {
+        match self {
+            Act::EmptyHall => Name::EmptyHall,
+            Act::WorkOut => Name::WorkOut,
+            Act::Audit => Name::Audit,
+            Act::Edit(edit) => Name::Edit(edit.kind),
+            Act::EditList(_) => Name::EditList,
+            Act::ImageWrite => Name::ImageWrite,
+            Act::ImageRead => Name::ImageRead,
+            Act::MoveOver => Name::MoveOver,
+            Act::ListRoutes { .. } => Name::ListRoutes,
+            Act::ImageCheck => Name::ImageCheck,
+        }
     }
 }

@@ -1,45 +1,33 @@
 // Entries of a table, also where it has none.
-ghost use Rattle.std.specs.Prelude.{◌≡◌, min, slice_index, slice_set};
+ghost use Rattle.std.specs.Prelude.{◌≡◌, ◌<◌, ◌≤◌, length, min, slice_get, slice_set};
 
-pub fn wide(x: u32) -> u64
-    ensures { result ≡ x }
-{
-    x as u64
-}
+use super::tables::place;
 
 // A number that needs more than 32 bits counts as the largest that does not.
 pub fn narrow(x: u64) -> u32
     ensures { result ≡ min x 4294967295 }
 {
-    if x < 4294967295 { x as u32 } else { 4294967295 }
+    u32::try_from(x).unwrap_or(u32::MAX)
 }
 
 // An entry, 0 behind a table's end.
-pub fn at(table: &[u32], i: usize) -> u64
-    ensures { result ≡ slice_index table.now i }
+pub fn at<T: Copy + Into<u64>>(table: &[T], i: usize) -> u64
+    ensures within { (x : T) → slice_get table.now i ≡ Some x → T.converts x result }
+    ensures behind { length table.now ≤ i → result ≡ 0 }
 {
-    if i < table.len() { wide(table[i]) } else { 0 }
+    table.get(i).map_or(0, |x| (*x).into())
 }
 
-pub fn at_long(table: &[u64], i: usize) -> u64
-    ensures { result ≡ slice_index table.now i }
-{
-    if i < table.len() { table[i] } else { 0 }
-}
-
-// Sets an entry; behind a table's end nothing.
-pub fn put(table: &mut [u32], i: usize, x: u64)
-    ensures { table.new ≡ slice_set table.old i (min x 4294967295) }
-{
-    if i < table.len() {
-        table[i] = narrow(x);
-    }
-}
-
-pub fn put_long(table: &mut [u64], i: usize, x: u64)
+// Sets an entry; behind a table's end nothing. By index, since `get_mut` does not say what the table is afterwards.
+pub fn put<T: Copy>(table: &mut [T], i: usize, x: T)
     ensures { table.new ≡ slice_set table.old i x }
 {
     if i < table.len() {
         table[i] = x;
     }
+}
+
+// The entry of a table for u and v, 0 where there is none.
+pub fn between<T: Copy + Into<u64>>(table: &[T], n: u64, u: u64, v: u64) -> u64 {
+    place(n, u, v).map_or(0, |i| at(table, i))
 }

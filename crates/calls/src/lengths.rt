@@ -1,55 +1,69 @@
-// The lengths at which tables are lent: those of a hall, but for at most one table. `odd` says which
-// table is lent an entry short, 1 to 6, or an entry long, 7 to 12; with 0 all have their lengths.
+// The lengths at which tables are lent: those of a hall, but for at most one table.
 ghost use Rattle.std.specs.Prelude.{◌≡◌, ◌+◌, ◌*◌, ◌<◌, ◌≤◌};
+ghost use Rattle.calls.specs.Rooms.{room_of, entries_of};
 
 use super::tables::{CELLS, STOPS, cells, stops};
 
-// The numbers of the tables of a hall: costs, times, ways, shares, scores and passing times.
-pub const COST: u64 = 1;
-
-pub const TIME: u64 = 2;
-
-pub const WAYS: u64 = 3;
-
-pub const SHARE: u64 = 4;
-
-pub const SCORE: u64 = 5;
-
-pub const PASSING: u64 = 6;
-
-// How many there are.
-pub const TABLES: u64 = 6;
-
-// The length of table i, which has so many entries and so much room.
-fn lent(entries: usize, room: usize, odd: u64, i: u64) -> usize
-    requires { (entries ≤ room) × (0 < i) × (i < 7) }
-    ensures { (odd ≡ 0 → result ≡ entries) × (result ≤ room) }
-{
-    if odd == i {
-        if 0 < entries {
-            return entries - 1;
-        }
-    }
-    if odd == i + TABLES {
-        if entries < room {
-            return entries + 1;
-        }
-    }
-    entries
+// The tables of a hall.
+#[derive(Clone, Copy, PartialEq, Eq)]
+pub enum Table {
+    Cost,
+    Time,
+    Ways,
+    Share,
+    Score,
+    Passing,
 }
 
-// The length of table i of n × n entries. Its callers prove that i is from 1 to 6.
-pub fn square(n: u64, odd: u64, i: u64) -> usize
-    requires { (0 < i) × (i < 7) }
-    ensures { (n ≤ 65 → odd ≡ 0 → result ≡ n * n) × (result ≤ 4225) }
-{
-    lent(cells(n), CELLS, odd, i)
+// The table that is lent an entry short, or an entry long.
+#[derive(Clone, Copy, PartialEq, Eq)]
+pub enum Odd {
+    Short(Table),
+    Long(Table),
 }
 
-// The length of table i of n entries.
-pub fn single(n: u64, odd: u64, i: u64) -> usize
-    requires { (0 < i) × (i < 7) }
-    ensures { (n ≤ 65 → odd ≡ 0 → result ≡ n) × (result ≤ 65) }
-{
-    lent(stops(n), STOPS, odd, i)
+impl Table {
+    pub const ALL: [Table; 6] = [
+        Table::Cost,
+        Table::Time,
+        Table::Ways,
+        Table::Share,
+        Table::Score,
+        Table::Passing,
+    ];
+
+    // How many entries the table has room for.
+    fn room(self) -> usize
+        ensures { result ≡ room_of self }
+    {
+        match self {
+            Table::Score | Table::Passing => STOPS,
+            _ => CELLS,
+        }
+    }
+
+    // How many it has in a hall of n stops.
+    fn entries(self, n: u64) -> usize
+        ensures { (n ≤ 65 → result ≡ entries_of self n) × (result ≤ room_of self) }
+    {
+        match self {
+            Table::Score | Table::Passing => stops(n),
+            _ => cells(n),
+        }
+    }
+
+    // The length at which it is lent.
+    pub fn lent(self, n: u64, odd: Option<Odd>) -> usize
+        ensures { (n ≤ 65 → odd ≡ None → result ≡ entries_of self n) × (result ≤ room_of self) }
+    {
+        let entries = self.entries(n);
+        let room = self.room();
+        match odd {
+            Some(Odd::Short(table)) if table == self => entries.saturating_sub(1),
+            Some(Odd::Long(table)) if table == self => {
+                if entries < room { entries + 1 } else { entries }
+            }
+            _ => entries,
+        }
+    }
 }

@@ -1,92 +1,98 @@
-// A list of edits by value, four numbers for each: its kind, its two stops and its cost. It has room for two edits more than a
-// list may have.
-ghost use Rattle.std.specs.Prelude.{◌≡◌, ◌+◌, ◌*◌, ◌<◌, ◌≤◌, replicate};
-ghost use Rattle.calls.specs.Lists.{kind_number, call_number, with, Holds};
+// A list of edits by value. It has room for two edits more than a list may have.
+ghost use Rattle.std.specs.Prelude.{◌≡◌, ℕ, ◌+◌, ◌<◌, ◌≤◌, slice_index, slice_set, take};
+ghost use Rattle.book.specs.declared.Edit.{Edit};
+ghost use Rattle.calls.specs.Lists.{four, number_at};
 
-use super::call::{CHEAPEN, Call, DELETE, INSERT, RAISE};
-use super::entries::at_long;
+use book::{Edit, Kind};
 
 // The room in edits, and in numbers.
 pub const EDITS: usize = 34;
 
 pub const NUMBERS: usize = 136;
 
+// A list is handed on by value with its call, so it is copied, and the library's vector of fixed room is not.
 #[derive(Clone, Copy)]
 pub struct List {
-    pub length: usize,
-    pub numbers: [u64; NUMBERS],
+    length: usize,
+    edits: [Edit; EDITS],
+
+    ghost fits: { length ≤ 34 },
 }
 
-pub fn no_edits() -> List
-    ensures { (result.length ≡ 0) × (result.numbers ≡ replicate 136 0) }
+// The four numbers of an edit, as the C face has them: its kind, its two stops and its cost.
+fn four(edit: Edit) -> [u64; 4]
+    ensures { result ≡ four edit }
 {
-    let numbers = [0u64; NUMBERS];
-    List { length: 0, numbers }
+    let kind = match edit.kind {
+        Kind::Insert => 1,
+        Kind::Cheapen => 2,
+        Kind::Raise => 3,
+        Kind::Delete => 4,
+    };
+    [kind, edit.u, edit.v, edit.cost]
 }
 
-// How many numbers the edits have; a list that is longer than its room counts as full.
-pub fn numbers_of(length: usize) -> usize
-    ensures { (length ≤ 34 → result ≡ 4 * length) × (result ≤ 136) }
+// Number i of those of all edits.
+fn number_at(edits: &[Edit; EDITS], i: usize) -> u64
+    requires { i < 136 }
+    ensures { (other : Edit) → result ≡ number_at edits.now other i }
 {
-    if length < EDITS { 4 * length } else { NUMBERS }
+    four(edits[i / 4])[i % 4]
 }
 
-// The number of a kind in a list, by the number of the call that edits a single link so.
-fn kind_number(number: u64) -> u64
-    ensures { result ≡ kind_number number }
-{
-    match number {
-        INSERT => 1,
-        CHEAPEN => 2,
-        RAISE => 3,
-        _ => 4,
+impl List {
+    pub fn new() -> List
+        ensures { result.length ≡ 0 }
+    {
+        let edit = Edit {
+            kind: Kind::Insert,
+            u: 0,
+            v: 0,
+            cost: 0,
+        };
+        List {
+            length: 0,
+            edits: [edit; EDITS],
+        }
     }
-}
 
-// The number of the call, by that of the kind.
-fn call_number(kind: u64) -> u64
-    ensures { result ≡ call_number kind }
-{
-    match kind {
-        1 => INSERT,
-        2 => CHEAPEN,
-        3 => RAISE,
-        _ => DELETE,
+    // The list with one edit more; a full list stays.
+    pub fn with(self, edit: Edit) -> List
+        ensures more { self.length < 34 → (result.length ≡ self.length + 1) × (result.edits ≡ slice_set self.edits self.length edit) }
+        ensures full { 34 ≤ self.length → result ≡ self }
+    {
+        if self.length == EDITS {
+            return self;
+        }
+        let mut edits = self.edits;
+        edits[self.length] = edit;
+        List {
+            length: self.length + 1,
+            edits,
+        }
     }
-}
 
-// The list with one edit more, by the number of its call; a full list stays.
-pub fn then(list: List, number: u64, u: u64, v: u64, cost: u64) -> List
-    ensures length_value { list.length < 34 → (result.length ≡ list.length + 1) × (result.numbers ≡ with list.numbers (4 * list.length) (kind_number number) u v cost) }
-    ensures value { 34 ≤ list.length → result ≡ list }
-{
-    let length = list.length;
-    let mut numbers = list.numbers;
-    if EDITS <= length {
-        return list;
+    // The first edits, as many as there is room for.
+    pub fn of(edits: &[Edit]) -> List {
+        edits
+            .iter()
+            .fold(List::new(), |list, edit| list.with(*edit))
     }
-    let start = 4 * length;
-    numbers[start] = kind_number(number);
-    numbers[start + 1] = u;
-    numbers[start + 2] = v;
-    numbers[start + 3] = cost;
-    List {
-        length: length + 1,
-        numbers,
-    }
-}
 
-// Edit i of a list as a call of its own, in a hall of n stops.
-pub fn edit_at(list: List, n: u64, i: usize) -> Call
-    ensures { (result.n ≡ n) × (i < 34 → Holds list.numbers (4 * i) result.number result.u result.v result.cost) }
-{
-    let numbers = list.numbers;
-    let start = numbers_of(i);
-    Call {
-        number: call_number(at_long(&numbers, start)),
-        n,
-        u: at_long(&numbers, start + 1),
-        v: at_long(&numbers, start + 2),
-        cost: at_long(&numbers, start + 3),
+    pub fn edits(&self) -> &[Edit]
+        ensures { result.now ≡ take self.now.length self.now.edits }
+    {
+        &self.edits[..self.length]
+    }
+
+    // The numbers of all its room.
+    pub fn numbers(&self) -> [u64; NUMBERS]
+        ensures { (i : ℕ) (other : Edit) → i < 136 → slice_index result i ≡ number_at self.now.edits other i }
+    {
+        let mut numbers = [0; NUMBERS];
+        for (i, number) in numbers.iter_mut().enumerate() {
+            *number = number_at(&self.edits, i);
+        }
+        numbers
     }
 }

@@ -1,8 +1,9 @@
 // Six tables by value, with room for a hall of 65 stops: the five that calls work on, and the passing times, which they only
 // read. A hall of n stops has the first n × n entries of each, and the first n passing times and scores.
-ghost use Rattle.std.specs.Prelude.{◌≡◌, ◌*◌, ◌<◌, ◌≤◌, replicate};
+ghost use Rattle.std.specs.Prelude.{◌≡◌, ◌*◌, ◌<◌, ◌≤◌, IfSome, replicate};
 
-use super::entries::narrow;
+use super::compare::{sum, unlike};
+use super::entries::{narrow, put};
 
 pub const CELLS: usize = 4225;
 
@@ -18,39 +19,58 @@ pub struct Tables {
     pub score: [u64; STOPS],
 }
 
-// Every entry is x, or y in the tables of 64 bits.
-pub fn filled(x: u32, y: u64) -> Tables
-    ensures cost_value { (result.cost ≡ replicate 4225 x) × (result.passing ≡ replicate 65 x) × (result.time ≡ replicate 4225 x) × (result.ways ≡ replicate 4225 x) }
-    ensures share_value { (result.share ≡ replicate 4225 y) × (result.score ≡ replicate 65 y) }
-{
-    let cost = [x; CELLS];
-    let passing = [x; STOPS];
-    let time = [x; CELLS];
-    let ways = [x; CELLS];
-    let share = [y; CELLS];
-    let score = [y; STOPS];
-    Tables {
-        cost,
-        passing,
-        time,
-        ways,
-        share,
-        score,
+impl Tables {
+    // Every entry is x, or y in the tables of 64 bits.
+    pub fn filled(x: u32, y: u64) -> Tables
+        ensures cost_value { (result.cost ≡ replicate 4225 x) × (result.passing ≡ replicate 65 x) × (result.time ≡ replicate 4225 x) × (result.ways ≡ replicate 4225 x) }
+        ensures share_value { (result.share ≡ replicate 4225 y) × (result.score ≡ replicate 65 y) }
+    {
+        Tables {
+            cost: [x; CELLS],
+            passing: [x; STOPS],
+            time: [x; CELLS],
+            ways: [x; CELLS],
+            share: [y; CELLS],
+            score: [y; STOPS],
+        }
     }
-}
 
-fn square(n: u64) -> usize
-    requires { n ≤ 65 }
-    ensures { (result ≡ n * n) × (result ≤ 4225) }
-{
-    (n * n) as usize
+    // The same tables, but for the cost of the link from u to v.
+    pub fn with_link(mut self, n: u64, u: u64, v: u64, c: u64) -> Tables
+        ensures { (result.passing ≡ self.passing) × (result.time ≡ self.time) × (result.ways ≡ self.ways) × (result.share ≡ self.share) × (result.score ≡ self.score) }
+    {
+        if let Some(at) = place(n, u, v) {
+            self.cost[at] = narrow(c);
+        }
+        self
+    }
+
+    // The same tables, but for the passing time of v.
+    pub fn with_passing(mut self, v: u64, x: u64) -> Tables
+        ensures { (result.cost ≡ self.cost) × (result.time ≡ self.time) × (result.ways ≡ self.ways) × (result.share ≡ self.share) × (result.score ≡ self.score) }
+    {
+        put(&mut self.passing, v as usize, narrow(x));
+        self
+    }
+
+    // How many entries differ from those of six others, with all their room.
+    pub fn unlike(&self, other: &Tables) -> u64 {
+        sum(&[
+            unlike(&self.cost, &other.cost, CELLS),
+            unlike(&self.time, &other.time, CELLS),
+            unlike(&self.ways, &other.ways, CELLS),
+            unlike(&self.share, &other.share, CELLS),
+            unlike(&self.score, &other.score, STOPS),
+            unlike(&self.passing, &other.passing, STOPS),
+        ])
+    }
 }
 
 // The number of entries of a hall's tables; a hall of more than 65 stops counts as one of none.
 pub fn cells(n: u64) -> usize
     ensures { (n ≤ 65 → result ≡ n * n) × (result ≤ 4225) }
 {
-    if n > 65 { 0 } else { square(n) }
+    stops(n) * stops(n)
 }
 
 // The number of its scores, and of its passing times.
@@ -60,45 +80,12 @@ pub fn stops(n: u64) -> usize
     if n > 65 { 0 } else { n as usize }
 }
 
-fn cell(n: u64, u: u64, v: u64) -> usize
-    requires { (n ≤ 65) × (u < n) × (v < n) }
+// Where a table has its entry for u and v, if it has one.
+pub fn place(n: u64, u: u64, v: u64) -> Option<usize>
+    ensures { IfSome result (λ at. at < 4225) }
 {
-    (u * n + v) as usize
-}
-
-// Where a table has its entry for u and v; behind all entries where there is none.
-pub fn place(n: u64, u: u64, v: u64) -> usize {
-    if n > 65 {
-        return CELLS;
+    if 65 < n || n <= u || n <= v {
+        return None;
     }
-    if n <= u {
-        return CELLS;
-    }
-    if n <= v {
-        return CELLS;
-    }
-    cell(n, u, v)
-}
-
-// The same tables, but for the cost of the link from u to v.
-pub fn link(n: u64, u: u64, v: u64, c: u64, t: Tables) -> Tables
-    ensures { (result.passing ≡ t.passing) × (result.time ≡ t.time) × (result.ways ≡ t.ways) × (result.share ≡ t.share) × (result.score ≡ t.score) }
-{
-    let at = place(n, u, v);
-    let mut next = t;
-    if at < CELLS {
-        next.cost[at] = narrow(c);
-    }
-    next
-}
-
-// The same tables, but for the passing time of v.
-pub fn pass(v: u64, x: u64, t: Tables) -> Tables
-    ensures { (result.cost ≡ t.cost) × (result.time ≡ t.time) × (result.ways ≡ t.ways) × (result.share ≡ t.share) × (result.score ≡ t.score) }
-{
-    let mut next = t;
-    if v < 65 {
-        next.passing[v as usize] = narrow(x);
-    }
-    next
+    Some((u * n + v) as usize)
 }

@@ -1,18 +1,23 @@
 -- Costs are valid, by two tests of the whole table, and passing times by one. Assumes nothing.
-use Prim.Native.Nat.{ℕ, ◌+◌, ◌*◌}
-use mathlib.Core.Path.{◌≡◌, ◌∙◌, ap}
-use mathlib.Core.Bool.{Bool, not, ◌&&◌, ◌||◌, not-not, and-eq-true_iff}
+use Prim.Native.Nat.{ℕ, ◌*◌, ◌<◌}
+use mathlib.Core.Path.{◌≡◌, sym, ap}
+use mathlib.Core.Bool.{Bool, true, false, ◌&&◌, and-eq-true_iff}
 use mathlib.Core.List.{List}
+use native.Mathlib.Nat.{zero-add}
+use native.Mathlib.Omega.{arith}
 use lib.Dec.{eqb, leb}
 use lib.ListN.{length, get_or}
 use borrow.Author.Tests.{eqb-true, eq-eqb, leb-true, le-leb}
 use Rattle.routes.specs.Route.{all_to}
-use Rattle.routes.proofs.Booleans.{bool_iff}
-use Rattle.routes.proofs.Sums.{all_true, all_of}
-use Rattle.routes.proofs.Tests.{all-flat, all_more}
+use Rattle.std.specs.Bool.{MatchBool}
+use Rattle.std.specs.List.{AllWithin, HoldsAt, range_with_len}
+use Rattle.std.proofs.lemmas.List.FromFn.{length-range_with_len, get_or-range_with_len}
+use Rattle.routes.proofs.Booleans.{bool_iff, both}
+use Rattle.routes.proofs.Sums.{all_true, all_of, is_false}
+use Rattle.routes.proofs.Tests.{all-flat}
 use Rattle.book.specs.Hall.{largest_cost, largest_passing, entry, valid_costs, valid_passing}
 use Rattle.book.proofs.Tables.{valid-costs, costs-valid}
-use Rattle.cells.specs.Promise.{Starts, none_above}
+use Rattle.cells.specs.Promise.{none_above}
 
 -- costs are valid where none is above the largest and none stands on the diagonal
 pub valid-tests : (n : ℕ) (cost : List ℕ) → length cost ≡ n * n →
@@ -34,7 +39,12 @@ pub passing-within : (n : ℕ) (passing : List ℕ) → length passing ≡ n →
 unfolding valid_passing
 passing-within n passing e = ap (λ k. all_to k (λ v. leb (get_or passing v 0) largest_passing)) e
 
--- one more entry of the diagonal, in a row that begins at r
-pub apart-more : (n u r : ℕ) (cost : List ℕ) (bad : Bool) → Starts n u r → not bad ≡ all_to u (λ x. eqb (entry n cost x x) 0) →
-    not (bad || not (eqb (get_or cost (r + u) 0) 0)) ≡ all_to (u + 1) (λ x. eqb (entry n cost x x) 0)
-apart-more n u r cost bad s e = all_more u (λ x. eqb (entry n cost x x) 0) bad _ e (not-not _ ∙ ap (λ k. eqb (get_or cost (k + u) 0) 0) s.place)
+-- a chain that tests the numbers below n
+pub range-tested : (n : ℕ) (p : ℕ → Bool) (r : Bool)
+    → MatchBool r (AllWithin (λ u. p u ≡ true) (range_with_len 0 n) 0 (length (range_with_len 0 n))) ((k : ℕ) × (k < length (range_with_len 0 n)) × HoldsAt (λ u. p u ≡ false) (range_with_len 0 n) k)
+    → r ≡ all_to n p
+range-tested n p true h = sym (all_of n p (λ i l. rw (get_or-range_with_len 0 n i 0 l, zero-add) at (h i 0 (omega arith) (rw (length-range_with_len 0 n) l))))
+range-tested n p false h =
+    let inside : h.0 < n = rw (length-range_with_len 0 n) at h.1 in
+    let fails : p h.0 ≡ false = rw (get_or-range_with_len 0 n h.0 0 inside, zero-add) at (h.2 0) in
+    sym (is_false (all_to n p) (λ all. both (all_true n p all h.0 inside) fails))

@@ -1,8 +1,10 @@
 // Where things stand in the lent tables, and whether the tables have their lengths.
 ghost use Rattle.std.specs.Prelude.{◌≡◌, ◌*◌, ◌<◌, ◌≤◌, length};
 ghost use Rattle.book.specs.Hall.{entry, sized as is_sized};
-ghost use Rattle.book.specs.Contract.{found};
+ghost use Rattle.book.specs.Contract.{seen};
 ghost use Rattle.cells.specs.Promise.{Starts};
+
+use book::lent::Lent;
 
 // Where row s of a table begins.
 pub fn start(n: usize, s: usize) -> usize
@@ -29,24 +31,16 @@ pub fn read_entry(n: usize, u: usize, v: usize, table: &[u32]) -> u32
 }
 
 // Each of the five tables and the passing times have their length.
-pub fn sized(
-    n: usize,
-    cost: &[u32],
-    passing: &[u32],
-    time: &[u32],
-    ways: &[u32],
-    share: &[u64],
-    score: &[u64],
-) -> bool
+#[tactic(auto, unfolding(book::specs::Hall::sized))]
+pub fn sized(n: usize, t: &Lent<'_>) -> bool
     requires { n ≤ 64 }
-    ensures { result ≡ is_sized n (found cost.now passing.now time.now ways.now share.now score.now) }
+    ensures { result ≡ is_sized n (seen t.now) }
 {
     let square = cells(n);
-    let costs = cost.len() == square;
-    let passings = passing.len() == n;
-    let times = time.len() == square;
-    let counts = ways.len() == square;
-    let shares = share.len() == square;
-    let scores = score.len() == n;
-    costs & (passings & (times & (counts & (shares & scores))))
+    t.cost.len() == square
+        && t.passing.len() == n
+        && t.time.len() == square
+        && t.ways.len() == square
+        && t.share.len() == square
+        && t.score.len() == n
 }

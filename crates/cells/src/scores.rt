@@ -1,42 +1,31 @@
 // Scores: the sums of shares over all sources.
 ghost use Rattle.std.specs.Prelude.{◌≡◌, ◌++◌, ℕ, ◌+◌, ◌^◌, ◌<◌, ◌≤◌, length, get_or, drop};
 ghost use Rattle.routes.specs.Route.{list_to};
-ghost use Rattle.book.specs.Hall.{entry};
 ghost use Rattle.cells.specs.Promise.{Shares, summed};
 
 use super::places;
 
-// Sets the first n sums to 0.
-fn clear(n: usize, sum: &mut [u64])
-    requires { n ≤ length sum.old }
-    ensures { sum.new ≡ list_to n (λ v. 0) ++ drop n sum.old }
+// Adds a row of shares to the sums in front, as many as it has.
+fn add(row: &[u64], sum: &mut [u64])
+    requires row_len { length row.now ≤ length sum.old }
+    requires fits { (v : ℕ) → v < length row.now → get_or sum.old v 0 + get_or row.now v 0 < 2 ^ 64 }
+    ensures { sum.new ≡ list_to (length row.now) (λ v. get_or sum.old v 0 + get_or row.now v 0) ++ drop (length row.now) sum.old }
 {
-    for v in 0..n {
-        sum[v] = 0;
+    for (v, share) in row.iter().enumerate() {
+        sum[v] += *share;
     }
 }
 
-// Adds row s of the shares to the first n sums.
-fn add(n: usize, s: usize, share: &[u64], sum: &mut [u64])
-    requires shares { Shares n share.now }
-    requires s_lt_n { (s < n) × (n ≤ length sum.old) }
-    requires by_index { (v : ℕ) → v < n → get_or sum.old v 0 + entry n share.now s v < 2 ^ 64 }
-    ensures { sum.new ≡ list_to n (λ v. get_or sum.old v 0 + entry n share.now s v) ++ drop n sum.old }
-{
-    let at = places::start(n, s);
-    for v in 0..n {
-        sum[v] += share[at + v];
-    }
-}
-
-// Sums the shares of each stop into the first n sums. The others stay.
+// Sums the shares of each stop into the first n sums. The others stay. Rows are taken by number: `chunks_exact` takes no chunks of 0, and
+// n may be 0.
 pub fn sum_scores(n: usize, share: &[u64], sum: &mut [u64])
     requires shares { Shares n share.now }
     requires n_in_bounds { n ≤ length sum.old }
     ensures { sum.new ≡ summed n n share.now sum.old }
 {
-    clear(n, sum);
+    sum[..n].fill(0);
     for s in 0..n {
-        add(n, s, share, sum);
+        let at = places::start(n, s);
+        add(&share[at..at + n], sum);
     }
 }

@@ -1,4 +1,5 @@
 -- What an edit of right tables asks to sum the scores, leaves and answers, once its rows are worked out. Assumes nothing.
+use Rattle.std.specs.Prelude.{Ok}
 use Prim.Native.Nat.{ℕ, ◌+◌, ◌*◌, ◌^◌, ◌≤◌}
 use mathlib.Core.Path.{◌≡◌, ◌∙◌, ap}
 use mathlib.Core.List.{List}
@@ -9,7 +10,6 @@ use Rattle.routes.proofs.Bits.{ones-set_of}
 use Rattle.book.specs.Hall.{laid, Tables, entry, filled, touched}
 use Rattle.book.specs.Call.{with_cost}
 use Rattle.book.specs.Contract.{tables, of_edit}
-use Rattle.book.specs.declared.Refusal.TheVariants.{Accepted}
 use Rattle.cells.specs.Promise.{Shares, summed}
 use Rattle.tables.specs.Promise.{Worked}
 use Rattle.cells.proofs.Sums.{summed-whole}
@@ -24,7 +24,7 @@ module _ (m L n u v new : ℕ) (t : Tables) (h : Change m L n u v new t.layout t
 
   pub applied : (sources : ℕ) → sources ≡ set_of n (touched n t.layout (with_cost n u v new t.layout) u v) → (count : ℕ) → count ≡ ones sources →
       (before : ℕ) → before ≡ entry n t.layout.cost u v → length t.score ≡ n → (score' : List ℕ) → score' ≡ summed n n shares' t.score →
-      Applied m L n u v new t (tables cost' t.layout.passing times' counts' shares' score') (of_edit (record { refusal = Accepted; touched = sources; rows = count; before = before }))
+      Applied m L n u v new t (tables cost' t.layout.passing times' counts' shares' score') (of_edit (Ok (record { touched = sources; rows = count; before = before })))
   unfolding filled
   applied sources e count o before was long score' sums = record {
     left = λ i. record {
@@ -34,5 +34,5 @@ module _ (m L n u v new : ℕ) (t : Tables) (h : Change m L n u v new t.layout t
       share = made.shares i;
       score = (sums ∙ summed-whole n shares' t.score long ∙ worked-scores m L n (with_cost n u v new t.layout) shares' made.shares) i;
     };
-    answered = λ i. of_edit (record { refusal = Accepted; touched = e i; rows = (o ∙ ap ones e ∙ ones-set_of n _) i; before = was i });
+    answered = λ i. of_edit (Ok (record { touched = e i; rows = (o ∙ ap ones e ∙ ones-set_of n _) i; before = was i }));
   }

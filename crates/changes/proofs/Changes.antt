@@ -23,9 +23,10 @@ use Rattle.routes.proofs.Passing.{link-from, linked-from, own-from, only-from, c
 use Rattle.routes.proofs.Joined.{useful-from}
 use Rattle.links.specs.Promise.{dearest, stay, masked, masked_from}
 use Rattle.links.proofs.Masked.{masked_small}
+use Rattle.links.specs.Work.{Linked}
 use Rattle.book.specs.Hall.{Layout, laid, largest_cost, largest_passing, entry, costs_in, filled}
 use Rattle.book.proofs.Tables.{length-table, entry-table}
-use Rattle.tables.specs.Promise.{Job, Square, row_of, parts, Worked}
+use Rattle.tables.specs.Promise.{Square, row_of, parts, Worked}
 use Rattle.book.proofs.Small.{Workable, costs-within, passing-within, within, flow}
 use Rattle.tables.proofs.Masked.{job, job-flows, all-rows, same-row_of}
 use Rattle.tables.proofs.Worked.{worked-of, worked-parts}
@@ -148,7 +149,7 @@ module _ {m L n : ℕ} {links : ℕ → ℕ → Bool} {rising : Bool} {lay : Lay
   over out s = masked_from n s cost' lay.passing out
 
   -- the chosen links are enough
-  chosen-job : (out : List ℕ) → Chosen n links rising cost' times out → Job n cost' lay.passing out
+  chosen-job : (out : List ℕ) → Chosen n links rising cost' times out → Linked n cost' lay.passing out
   chosen-job out c = job h.workable' out _ c.long c.bit
 
   chosen-rows : (out : List ℕ) → Chosen n links rising cost' times out → (s : ℕ) → s < n → SameRow (over out s) (C' s) n s

@@ -1,64 +1,137 @@
--- The loop over a list of edits, whatever form the list comes in: it begins, goes on with the next edit, and ends with the list done.
--- Assumes nothing.
+-- The loop over a list of edits, whatever form the list comes in: `gives i e` says that its edit at the place i is e. It begins, goes on
+-- with the next edit, stops at a refused one, and ends with the list done. Assumes nothing.
+use Rattle.std.specs.Prelude.{◌==◌, true, Result, Ok, Err}
+use Rattle.std.proofs.lemmas.List.{ext_get_or, get_or_append_left, get_or-take, take-append-drop}
+use Rattle.std.proofs.Math.Seq.{get_or-append_seam, drop-cons}
 use Prim.Native.Nat.{ℕ, suc, ◌+◌, ◌<◌, ◌≤◌}
-use mathlib.Core.Path.{◌≡◌, refl}
-use mathlib.Core.Bool.{Bool, true, false, cond}
+use mathlib.Core.Path.{◌≡◌, refl, sym, ◌∙◌, ap, subst}
 use mathlib.Core.List.{List, [], ◌∷◌, ◌++◌}
+use mathlib.Core.Logic.{⊎_elim}
+use native.Mathlib.Nat.{eq-or-lt_of_le}
 use native.Mathlib.Omega.{arith}
-use lib.Dec.{ltb}
-use lib.ListN.{length, get_or, take}
-use lib.Seq.{length-take-le, take_all, take-suc}
-use borrow.Author.Tests.{ltb-false, ltb-true, le-ltb}
-use Rattle.book.specs.Hall.{Tables, most_edits}
-use Rattle.book.specs.Call.{edit_list, Done}
-use Rattle.book.specs.Contract.{of_list}
+use lib.Count.{ones}
+use borrow.Author.Tests.{eqb-true}
+use lib.ListN.{length, get_or, take, drop, length-append}
+use lib.Seq.{length-take-le, take_all}
+use Rattle.routes.proofs.Booleans.{both}
+use Rattle.book.specs.Hall.{Tables, most_ways, scale, filled}
+use Rattle.book.specs.Call.{Accepted, accepted, edit, edit_list, Done}
+use Rattle.book.specs.Contract.{SameLoans, of_edit, of_list, Audited}
 use Rattle.book.specs.declared.Edit.{Edit}
-use Rattle.book.specs.declared.ListAnswer.{ListAnswer}
+use Rattle.book.specs.declared.Kind.TheVariants.{Insert}
+use Rattle.book.specs.declared.Edited.{Edited}
+use Rattle.book.specs.declared.Refusal.{Refusal}
+use Rattle.book.specs.declared.lent.LentMut.{LentMut}
+use Rattle.course.specs.declared.Change.{Change}
 use Rattle.course.specs.declared.Course.{Course}
-use Rattle.course.specs.Promise.{admits, begun, turns_of, Open, Turned, Closing, Finished}
-use Rattle.course.proofs.Standing.{Standing, standing-begins, standing-turns, admitted}
-use Rattle.course.proofs.Ends.{standing-open, standing-closes, list_done}
+use Rattle.course.specs.Promise.{admits, Lists, Noted, outcome_of, Turned, undo, undone, Undoes}
+use Rattle.course.proofs.Standing.{Running, running-audited, running-begins, running-next, edit-kept}
+use Rattle.course.proofs.Ends.{can-undo, back-again, list-stopped, list-taken}
 
--- no more turns than edits, and than a list may have
-pub turns-within : (long : ℕ) → (turns_of long ≤ long) × (turns_of long ≤ most_edits)
-turns-within long = go (ltb most_edits long) refl
+-- the first i edits were made, each accepted
+pub record Going (n : ℕ) (gives : ℕ → Edit → Type 0) (start : Tables) (i : ℕ) (c : Course) (t : Tables) : Type 0 where
+  pub made : List Edit
+  pub many : length made ≡ i
+  pub given : (k : ℕ) → k < i → (d : Edit) → gives k (get_or made k d)
+  pub running : Running n start made c t
+
+-- the same loans after two steps
+pub loans_on : {a b c : LentMut} → SameLoans a b → SameLoans b c → SameLoans a c
+loans_on p q = record { cost = q.cost ∙ p.cost; passing = q.passing ∙ p.passing; time = q.time ∙ p.time; ways = q.ways ∙ p.ways; share = q.share ∙ p.share; score = q.score ∙ p.score }
+
+-- a course without changes
+pub no-changes : (changes : List Change) → (length changes == 0) ≡ true → changes ≡ []
+no-changes [] e = refl
+no-changes (c ∷ changes) e = absurd (omega (arith, eqb-true (length (c ∷ changes)) 0 e))
+
+-- what a turn came to
+accepted_turn : {n : ℕ} {e : Edit} {c c' : Course} {t t' : Tables} → Turned n e c c' t t' Accepted →
+    (a : Edited) × Done (record { n = n; ask = edit e }) t t' (of_edit (Ok a)) × Noted n e (Ok a) c c'
+accepted_turn {n} {e} {c} {c'} {t} {t'} turn = go turn.answer turn.done turn.told turn.noted
   where
-    go : (b : Bool) → ltb most_edits long ≡ b → (cond b most_edits long ≤ long) × (cond b most_edits long ≤ most_edits)
-    go true e = let more = ltb-true most_edits long e in (omega arith, omega arith)
-    go false e = let short = ltb-false most_edits long e in (omega arith, omega arith)
+    go : (a : Result Edited Refusal) → Done (record { n = n; ask = edit e }) t t' (of_edit a) → Accepted ≡ outcome_of a → Noted n e a c c' →
+        (a : Edited) × Done (record { n = n; ask = edit e }) t t' (of_edit (Ok a)) × Noted n e (Ok a) c c'
+    go (Ok a) d told noted = (a, d, noted)
+    go (Err r) d told noted = absurd (both refl (ap accepted told))
 
--- the first i edits of the list have had their turn
-pub record Going (n : ℕ) (list : List Edit) (start : Tables) (i : ℕ) (c : Course) (t : Tables) : Type 0 where
-  pub within : i ≤ turns_of (length list)
-  pub standing : Standing n (length list) start (take i list) c t
+refused_turn : {n : ℕ} {e : Edit} {c c' : Course} {t t' : Tables} (r : Refusal) → Turned n e c c' t t' (Err r) →
+    Done (record { n = n; ask = edit e }) t t' (of_edit (Err r)) × Noted n e (Err r) c c'
+unfolding Noted
+refused_turn {n} {e} {c} {c'} {t} {t'} r turn = go turn.answer turn.done turn.told turn.noted
+  where
+    go : (a : Result Edited Refusal) → Done (record { n = n; ask = edit e }) t t' (of_edit a) → Err r ≡ outcome_of a → Noted n e a c c' →
+        Done (record { n = n; ask = edit e }) t t' (of_edit (Err r)) × Noted n e (Err r) c c'
+    go (Ok a) d told noted = absurd (both refl (sym (ap accepted told)))
+    go (Err x) d told noted = (rw told d, noted)
 
-module _ (n : ℕ) (list : List Edit) (start : Tables) where
-  pub going-begins : Going n list start 0 (begun (admits n (length list) start)) start
-  going-begins = record { within = omega arith; standing = standing-begins n (length list) start }
+module _ (n : ℕ) (gives : ℕ → Edit → Type 0) (start : Tables) where
+  pub going-begins : (long : ℕ) (c : Course) → Accepted ≡ admits n long start → c.touched ≡ 0 → c.changes.items ≡ [] → Going n gives start 0 c start
+  going-begins long c let_in none empty =
+      record { made = []; many = refl; given = λ k l. absurd (omega arith); running = running-begins n long start c (ap accepted (sym let_in)) none empty }
 
-  module _ (i : ℕ) (c : Course) (t : Tables) (g : Going n list start i c t) where
-    so_far : length (take i list) ≡ i
-    so_far = length-take-le i list (omega (arith, g.within, (turns-within (length list)).0))
+  module _ (i : ℕ) (c : Course) (t : Tables) (g : Going n gives start i c t) where
+    -- what a turn asks
+    pub going-open : Audited n t × (length c.changes.items ≡ i)
+    going-open = (running-audited n start g.made c t g.running, g.running.many ∙ g.many)
 
-    pub going-open : i < turns_of (length list) → Open n c t
-    going-open l = standing-open n (length list) start (take i list) c t g.standing (omega (arith, so_far, (turns-within (length list)).1))
+    module _ (e : Edit) (gave : gives i e) (c' : Course) (t' : Tables) where
+      pub going_on : Turned n e c c' t t' Accepted → Going n gives start (i + 1) c' t'
+      going_on turn =
+          let (a, d, noted) = accepted_turn turn in
+          record {
+            made = g.made ++ e ∷ [];
+            many = simp length-append (omega (arith, g.many));
+            given = λ k l d. ⊎_elim (λ last. subst (λ k. gives k (get_or (g.made ++ e ∷ []) k d)) (g.many ∙ sym last) (rw (get_or-append_seam g.made e [] d, g.many) gave)) (λ less. rw (get_or_append_left g.made (e ∷ []) d k (omega (arith, g.many))) (g.given k less d)) (eq-or-lt_of_le (upto k l));
+            running = running-next n start g.made c t g.running e t' a d c' noted;
+          }
+        where
+          upto : (k : ℕ) → k < i + 1 → k ≤ i
+          upto k l = omega arith
 
-    pub going_on : i < turns_of (length list) → (d e : Edit) → e ≡ get_or list i d → (c' : Course) (t' : Tables) → Turned n e c c' t t' →
-        Going n list start (i + 1) c' t'
-    going_on l d e same c' t' turn =
-        let next : i + 1 ≡ suc i = omega arith in
-        let more : take (i + 1) list ≡ take i list ++ e ∷ [] = rw (next, same) (take-suc list i d (omega (arith, (turns-within (length list)).0))) in
-        record {
-          within = omega arith;
-          standing = rw more (standing-turns n (length list) start (take i list) c t g.standing (omega (arith, so_far, (turns-within (length list)).1)) e c' t' turn);
-        }
+      -- a refused one: its predecessors can be put back, and then the list is done
+      module _ (r : Refusal) (turn : Turned n e c c' t t' (Err r)) where
+        stays : (t' ≡ t) × (c'.touched ≡ c.touched) × (c'.changes.items ≡ c.changes.items)
+        unfolding Noted
+        stays = let (d, noted) = refused_turn r turn in (edit-kept n e t t' (Err r) d refl, noted.0, noted.1)
 
-    pub going-closes : Closing n c t
-    going-closes = standing-closes n (length list) start (take i list) c t g.standing (omega (arith, so_far, g.within, (turns-within (length list)).1))
+        pub going-undoes : Undoes n c'.touched c'.changes.items t'
+        going-undoes = rw (stays.0, stays.1, stays.2) (can-undo n start g.made c t g.running)
 
-    -- behind the last turn
-    pub going-ends : turns_of (length list) ≤ i → (a : ListAnswer) (t' : Tables) → Finished n c a t t' → Done (record { n = n; ask = edit_list list }) start t' (of_list a)
-    going-ends last a t' end =
-        list_done n list start (take i list) c t g.standing
-        (λ ok. take_all i list (let short : turns_of (length list) ≡ length list = rw (le-ltb most_edits (length list) (admitted n (length list) start ok).1) in omega (arith, short)))
-        a t' end
+        pub going-back : filled scale most_ways n (undo c'.changes.items t'.layout) ≡ start
+        going-back = rw (stays.0, stays.2) (back-again n start g.made c t g.running)
+
+        -- where none was made they are as they were
+        pub going-idle : c'.changes.items ≡ [] → t' ≡ start
+        unfolding undone filled
+        going-idle none =
+            let r = g.running in
+            let empty : c.changes.items ≡ [] = sym stays.2 ∙ none in
+            let first : t.layout ≡ start.layout = rw empty at r.back in
+            stays.0 ∙ r.now ∙ ap (filled scale most_ways n) (sym (ap (λ x. x.layout) r.now) ∙ first) ∙ r.begins
+
+  -- the edits that were made are the first of any list that is given so
+  module _ (i : ℕ) (c : Course) (t : Tables) (g : Going n gives start i c t) (many : ℕ) (edits : List Edit) (l : Lists gives many edits) (within : i ≤ many) where
+    front : g.made ≡ take i edits
+    front =
+        (ext_get_or none g.made (take i edits) (g.many ∙ sym (length-take-le i edits (omega (arith, l.long))))
+        (λ k h. l.each k _ (omega (arith, g.many)) (g.given k (omega (arith, g.many)) none) none ∙ sym (get_or-take i edits k none (omega (arith, g.many)))))
+      where
+        none : Edit
+        none = record { kind = Insert; u = 0; v = 0; cost = 0 }
+
+    -- refused at the next one
+    pub going-stops : (e : Edit) → i < many → gives i e → (c' : Course) (t' : Tables) (r : Refusal) → Turned n e c c' t t' (Err r) → Accepted ≡ admits n many start →
+        Done (record { n = n; ask = edit_list edits }) start start (of_list (Err (record { refusal = r; place = i + 1 })))
+    going-stops e next gave c' t' r turn let_in =
+        rw (← g.many) (list-stopped n edits start (sym (rw (← l.long) at let_in)) g.made c t g.running e (drop (i + 1) edits) whole t' r (refused_turn r turn).0)
+      where
+        whole : edits ≡ g.made ++ e ∷ drop (i + 1) edits
+        whole =
+            let one : i + 1 ≡ suc i = omega arith in
+            let rest : drop i edits ≡ e ∷ drop (suc i) edits = drop-cons edits i e (omega (arith, l.long)) ∙ ap (λ x. x ∷ drop (suc i) edits) (sym (l.each i e next gave e)) in
+            rw one (sym (take-append-drop i edits) ∙ ap (λ r. take i edits ++ r) rest ∙ ap (λ f. f ++ e ∷ drop (suc i) edits) (sym front))
+
+    -- and behind the last one
+    pub going-ends : i ≡ many → Accepted ≡ admits n many start →
+        Done (record { n = n; ask = edit_list edits }) start t (of_list (Ok (record { touched = c.touched; rows = ones c.touched })))
+    going-ends last let_in = list-taken n edits start (sym (rw (← l.long) at let_in)) g.made c t g.running (front ∙ take_all i edits (omega (arith, l.long)))

@@ -1,22 +1,24 @@
-// A list of edits on its way: it begins with the tests of the whole list, each edit has its turn in the hall that its predecessors
-// made, and at the end the list is answered, or refused and its tables are put back.
+// A list of edits as one call, whatever form the list comes in: the tests of the whole list, the turn of each edit in the hall that its
+// predecessors made, and the way back where one is refused.
 #![tactic(auto)]
 
-pub mod back;
-pub mod begin;
-pub mod finish;
-pub mod turn;
+mod back;
+mod in_turn;
+mod turn;
 
-use book::Refusal;
+use arrayvec::ArrayVec;
+pub use in_turn::edit_each;
 
-// Where a list of edits stands: its refusal so far, with the place of the edit that caused it; the sources that its edits touched;
-// and of each edit that was made the spot in the cost table that it set, and the cost before, to put it back.
-#[derive(Clone, Copy)]
+// A change of the cost table: where, and the cost before it.
+#[derive(Clone, Copy, Default)]
+pub struct Change {
+    pub spot: u32,
+    pub cost: u32,
+}
+
+// What the edits so far came to: the sources that they touched, and their changes, to put them back.
+#[derive(Drop)]
 pub struct Course {
-    pub refusal: Refusal,
-    pub place: u32,
     pub touched: u64,
-    pub done: usize,
-    pub spots: [u32; 32],
-    pub costs: [u32; 32],
+    pub changes: ArrayVec<Change, 32>,
 }

@@ -1,10 +1,9 @@
 -- A list of edits as numbers, four for each edit: its kind, its two stops and its cost. Assumes nothing.
-use Rattle.std.specs.Prelude.{ℕ, zero, suc, ◌+◌, ◌*◌, ◌/◌, ◌%◌, Bool, cond, ◌&&◌, ◌||◌, List, [], ◌∷◌, ◌++◌, eqb, ltb, length, get_or}
+use Rattle.std.specs.Prelude.{ℕ, zero, suc, ◌+◌, ◌*◌, ◌/◌, ◌%◌, Bool, cond, ◌&&◌, ◌||◌, List, Option, None, Some, [], ◌∷◌, ◌++◌, eqb, ltb, length, get_or}
 use Rattle.book.specs.Hall.{most_edits}
 use Rattle.book.specs.declared.Edit.{Edit}
 use Rattle.book.specs.declared.Kind.{Kind}
 use Rattle.book.specs.declared.Kind.TheVariants.{Insert, Cheapen, Raise, Delete}
-use Rattle.course.specs.Promise.{turns_of}
 
 -- the kinds are 1 to 4
 abbrev pub kind_of : ℕ → Kind
@@ -33,6 +32,15 @@ unfoldable pub other_from : (else i k : ℕ) → List ℕ → ℕ
 other_from else i zero list = else
 other_from else i (suc k) list = cond (no_kind (get_or list (4 * i) 0)) (i + 1) (other_from else (i + 1) k list)
 
+-- how many edits of a list have a turn: of one that is too long, no more than a list may have
+abbrev pub turns_of : ℕ → ℕ
+turns_of length = cond (ltb most_edits length) most_edits length
+
 -- the first of the first 32 edits that is none
 abbrev pub first_other : List ℕ → ℕ
 first_other list = other_from (cut_short (length list)) 0 (turns_of (length list / 4)) list
+
+-- a place that is 0 is none
+abbrev pub place_of : ℕ → Option ℕ
+place_of zero = None
+place_of (suc i) = Some (suc i)

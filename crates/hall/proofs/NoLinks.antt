@@ -18,10 +18,11 @@ use Rattle.routes.proofs.Rows.{list_to-of}
 use Rattle.routes.proofs.Times.{times, ways-source, ways-reached}
 use Rattle.routes.proofs.Unique.{times-unique}
 use Rattle.routes.proofs.Bounds.{open-le}
-use Rattle.book.specs.Hall.{laid, most_ways, scale, entry, costs_in, filled, no_links}
+use Rattle.book.specs.Hall.{laid, Tables, most_ways, scale, entry, costs_in, filled, no_links}
 use Rattle.book.proofs.Tables.{table_of, entry_set}
 use Rattle.book.specs.Contract.{tables}
-use Rattle.hall.specs.Promise.{Blank, Diagonal}
+use Rattle.book.proofs.Sizes.{Lengths}
+use Rattle.hall.specs.Promise.{Diagonal}
 
 module _ (W : Costs) (n s : ℕ) (none : (u v : ℕ) → u < n → v < n → W u v ≡ 0) (inside : s < n) where
   within : Within W n 0
@@ -96,20 +97,21 @@ module _ (n : ℕ) (passing : List ℕ) where
   unfolding score
   bare-score v l = sum_to-zero n (λ s k. alone-share (bare s) n s (none s) k most_ways scale v l)
 
-  made : {costs times counts shares times' counts' scores : List ℕ} → Blank (n * n) costs times counts shares → Diagonal n n 0 times times' →
-      Diagonal n n 1 counts counts' → scores ≡ replicate n 0 → tables costs passing times' counts' shares scores ≡ filled scale most_ways n (no_links n passing)
+  -- tables of these lengths, filled and with their diagonals set
+  pub emptied : {t : Tables} {costs times counts shares times' counts' scores : List ℕ} → Lengths n t → costs ≡ replicate (length t.layout.cost) 0 → times ≡ replicate (length t.time) mark →
+      counts ≡ replicate (length t.ways) 0 → shares ≡ replicate (length t.share) 0 → Diagonal n n 0 times times' → Diagonal n n 1 counts counts' →
+      scores ≡ replicate (length t.score) 0 → tables costs passing times' counts' shares scores ≡ filled scale most_ways n (no_links n passing)
   unfolding filled
-  made {costs} {times} {counts} {shares} {times'} {counts'} {scores} b d e z = λ i. record {
-    layout = laid (b.costs i) passing;
-    time = table_of n (λ s. least_time (bare s) n s) times' (length-diagonal n 0 mark times times' b.times d) (λ s t k l. entry-diagonal n 0 mark times times' b.times d s t k l ∙ sym (alone-time (bare s) n s (none s) k t l)) i;
-    ways = table_of n (λ s. capped_ways (bare s) n s most_ways) counts' (length-diagonal n 1 0 counts counts' b.counts e) (λ s t k l. entry-diagonal n 1 0 counts counts' b.counts e s t k l ∙ sym (alone-capped (bare s) n s (none s) k 11 t l)) i;
-    share = (b.shares ∙ table_of n (λ s. open_share (bare s) n s most_ways scale) (replicate (n * n) 0) (length-replicate (n * n) 0) (λ s t k l. zero s t k l ∙ sym (alone-share (bare s) n s (none s) k most_ways scale t l))) i;
-    score = (z ∙ list_to-of n (score bare n most_ways scale) 0 (replicate n 0) (length-replicate n 0) (λ v l. get_or-replicate n v 0 0 l ∙ sym (bare-score v l))) i;
+  emptied {t} {costs} {times} {counts} {shares} {times'} {counts'} {scores} l a b c s d e z = λ i. record {
+    layout = laid ((a ∙ ap (λ k. replicate k 0) l.costs) i) passing;
+    time = table_of n (λ s. least_time (bare s) n s) times' (length-diagonal n 0 mark times times' (long mark b l.times) d) (λ s t k l'. entry-diagonal n 0 mark times times' (long mark b l.times) d s t k l' ∙ sym (alone-time (bare s) n s (none s) k t l')) i;
+    ways = table_of n (λ s. capped_ways (bare s) n s most_ways) counts' (length-diagonal n 1 0 counts counts' (long 0 c l.counts) e) (λ s t k l'. entry-diagonal n 1 0 counts counts' (long 0 c l.counts) e s t k l' ∙ sym (alone-capped (bare s) n s (none s) k 11 t l')) i;
+    share = (long 0 s l.shares ∙ table_of n (λ s. open_share (bare s) n s most_ways scale) (replicate (n * n) 0) (length-replicate (n * n) 0) (λ s t k l'. zero s t k l' ∙ sym (alone-share (bare s) n s (none s) k most_ways scale t l'))) i;
+    score = (long 0 z l.scores ∙ list_to-of n (score bare n most_ways scale) 0 (replicate n 0) (length-replicate n 0) (λ v l'. get_or-replicate n v 0 0 l' ∙ sym (bare-score v l'))) i;
   }
-
-  pub emptied : {cells k : ℕ} {costs times counts shares times' counts' scores : List ℕ} → cells ≡ n * n → k ≡ n → Blank cells costs times counts shares →
-      Diagonal n n 0 times times' → Diagonal n n 1 counts counts' → scores ≡ replicate k 0 → tables costs passing times' counts' shares scores ≡ filled scale most_ways n (no_links n passing)
-  emptied p q b d e z = made (rw p at b) d e (z ∙ ap (λ k. replicate k 0) q)
+    where
+      long : {k m : ℕ} {xs : List ℕ} (x : ℕ) → xs ≡ replicate k x → k ≡ m → xs ≡ replicate m x
+      long x e f = e ∙ ap (λ k. replicate k x) f
 
 -- the diagonal, place by place
 module _ (n x : ℕ) where

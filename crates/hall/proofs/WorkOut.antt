@@ -1,13 +1,14 @@
 -- Work out, from its tests and rows to what it promises. Assumes nothing.
+use Rattle.std.specs.Prelude.{Err}
 use Prim.Native.Nat.{ℕ, ◌*◌}
 use mathlib.Core.Path.{◌≡◌, refl, ◌∙◌}
 use mathlib.Core.Bool.{true, false}
 use mathlib.Core.List.{List}
 use borrow.Author.Tests.{eq-eqb}
 use Rattle.book.specs.Hall.{Layout, laid, Tables, most_ways, scale, filled, sized, valid_costs}
-use Rattle.book.specs.Call.{Call, work_out, need, rule, refusal, Done}
+use Rattle.book.specs.Call.{Call, work_out, need, rule, refusal, Done, Accepted}
 use Rattle.book.specs.Contract.{tables, of_refusal, Inside}
-use Rattle.book.specs.declared.Refusal.TheVariants.{Accepted, BadCost}
+use Rattle.book.specs.declared.Refusal.TheVariants.{BadCost}
 use Rattle.book.proofs.Sizes.{stops, lengths}
 use Rattle.book.proofs.Refused.{refused-done}
 use Rattle.book.proofs.Doors.{behind-door, accepted-done}
@@ -38,9 +39,9 @@ module _ (n : ℕ) (cost passing time ways share score : List ℕ) (i : Inside n
   unfolding rule
   work-refusal = behind-door call found (brought-fits n found) refl i
 
-  pub work-invalid : valid_costs n cost ≡ false → Done call found found (of_refusal BadCost)
+  pub work-invalid : valid_costs n cost ≡ false → Done call found found (of_refusal (Err BadCost))
   unfolding rule
-  work-invalid e = refused-done call found BadCost (work-refusal ∙ rw e) refl
+  work-invalid e = refused-done call found (Err BadCost) (work-refusal ∙ rw e) refl
 
   module _ (valid : valid_costs n cost ≡ true) {time' ways' share' : List ℕ} (a : Worked most_ways scale n lay time' ways' share') where
     workable : Workable n lay

@@ -4,10 +4,10 @@ ghost use Rattle.book.specs.Contract.{found_layout, these, found, left_beside, o
 
 use super::door::door;
 use book::Refusal;
-use book::limits::Hall;
-use book::number_of::passes;
+use book::lent::Lent;
 use cells::{costs, scores};
 use tables::fill_all::fill_all;
+use tables::measures;
 
 // Work out behind the door: test 5, and the tables.
 fn fill_tables(
@@ -18,16 +18,16 @@ fn fill_tables(
     ways: &mut [u32],
     share: &mut [u64],
     score: &mut [u64],
-) -> Refusal
+) -> Result<(), Refusal>
     requires { Inside n (these cost.now passing.now time.old ways.old share.old score.old) }
     ensures { Done (record { n = n; ask = work_out (found_layout cost.now passing.now) }) (found cost.now passing.now time.old ways.old share.old score.old) (left_beside cost.now passing.now time.new ways.new share.new score.new) (of_refusal result) }
 {
     if !costs::valid(n, cost) {
-        return Refusal::BadCost;
+        return Err(Refusal::BadCost);
     }
-    fill_all(Hall::WAYS, Hall::SCALE, n, cost, passing, time, ways, share);
+    fill_all(measures::present(), n, cost, passing, time, ways, share);
     scores::sum_scores(n, share, score);
-    Refusal::Accepted
+    Ok(())
 }
 
 pub fn work_out(
@@ -38,12 +38,17 @@ pub fn work_out(
     ways: &mut [u32],
     share: &mut [u64],
     score: &mut [u64],
-) -> Refusal
+) -> Result<(), Refusal>
     ensures { Done (record { n = n; ask = work_out (found_layout cost.now passing.now) }) (found cost.now passing.now time.old ways.old share.old score.old) (left_beside cost.now passing.now time.new ways.new share.new score.new) (of_refusal result) }
 {
-    let verdict = door(n, cost, passing, time, ways, share, score);
-    if !passes(verdict) {
-        return verdict;
-    }
+    let t = Lent {
+        cost,
+        passing,
+        time,
+        ways,
+        share,
+        score,
+    };
+    door(n, &t)?;
     fill_tables(n as usize, cost, passing, time, ways, share, score)
 }

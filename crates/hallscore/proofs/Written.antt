@@ -5,11 +5,11 @@ use mathlib.Core.Logic.{⊎_elim}
 use Rattle.std.proofs.lemmas.Bool.{cases_lt}
 use lib.Seq.{length-take-le, take_all, take-append_seam}
 use borrow.Author.Tests.{le-ltb}
+use Rattle.std.specs.Option.{unwrap_or}
 use Rattle.std.specs.Prelude.{OnOk, IfSome}
 use Rattle.std.specs.Io.KnownBytes.{Appends}
 use Rattle.words.specs.Text.{longest, listing}
 use Rattle.listing.specs.Promise.{room, wrote}
-use Rattle.listing.specs.declared.Listed.{Listed}
 use Rattle.listing.proofs.Whole.{too_long}
 
 -- a longer text than is read has the listing of its front
@@ -20,17 +20,22 @@ listing-front text =
     (λ h. ap listing (take_all (longest + 1) text (omega arith)))
     (cases_lt longest (length text))
 
--- what is written of the output is the listing
-wrote-shown : (input output : List ℕ) (r : Listed) (out : List ℕ) → room ≤ length output → (r, out) ≡ wrote input output → take r.length out ≡ listing input
+-- an output with room is written, and what is written of it is the listing
+pub listed : (input output : List ℕ) (r : Option ℕ) (out : List ℕ) → room ≤ length output → (r, out) ≡ wrote input output → r ≡ Some (length (listing input))
 unfolding wrote
-wrote-shown input output r out h e =
-    subst⁻¹ (λ (x : Listed × List ℕ). take x.0.length x.1 ≡ listing input) e (rw (le-ltb (length output) room h) (take-append_seam (listing input) (drop (length (listing input)) output)))
+listed input output r out h e = ap (λ (x : Option ℕ × List ℕ). x.0) e ∙ rw (le-ltb (length output) room h)
 
-pub shown : (left : Option (List ℕ)) (n : ℕ) (text output : List ℕ) (r : Listed) (out : List ℕ) → length text ≡ longest + 1 → room ≤ length output →
-    IfSome left (λ xs. take n text ≡ take (length text) xs) → (r, out) ≡ wrote (take n text) output → IfSome left (λ xs. take r.length out ≡ listing xs)
-shown None n text output r out long h front e = tt
-shown (Some xs) n text output r out long h front e =
-    wrote-shown (take n text) output r out h e ∙ ap listing (front ∙ ap (λ (k : ℕ). take k xs) long) ∙ listing-front xs
+wrote-shown : (input output : List ℕ) (end : ℕ) (out : List ℕ) → room ≤ length output → (Some end, out) ≡ wrote input output → take end out ≡ listing input
+unfolding wrote
+wrote-shown input output end out h e =
+    subst⁻¹ (λ (x : Option ℕ × List ℕ). take (unwrap_or x.0 0) x.1 ≡ listing input) e
+    (rw (le-ltb (length output) room h) (take-append_seam (listing input) (drop (length (listing input)) output)))
+
+pub shown : (left : Option (List ℕ)) (n : ℕ) (text output : List ℕ) (end : ℕ) (out : List ℕ) → length text ≡ longest + 1 → room ≤ length output →
+    IfSome left (λ xs. take n text ≡ take (length text) xs) → (Some end, out) ≡ wrote (take n text) output → IfSome left (λ xs. take end out ≡ listing xs)
+shown None n text output end out long h front e = tt
+shown (Some xs) n text output end out long h front e =
+    wrote-shown (take n text) output end out h e ∙ ap listing (front ∙ ap (λ (k : ℕ). take k xs) long) ∙ listing-front xs
 
 pub written-listing : {T E : Type 0} (r : Result T E) (left old new : Option (List ℕ)) (written : List ℕ) → IfSome left (λ xs. written ≡ listing xs) →
     OnOk r (Appends old new written) → OnOk r (IfSome left (λ xs. Appends old new (listing xs)))

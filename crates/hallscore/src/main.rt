@@ -9,16 +9,7 @@ use listing::{LONGEST, ROOM};
 use std::io;
 use std::io::{Read, Write};
 
-// A byte more than the longest text that is read, and room for the listing of any text.
-fn input() -> [u8; LONGEST + 1] {
-    [0; LONGEST + 1]
-}
-
-fn output() -> [u8; ROOM] {
-    [0; ROOM]
-}
-
-// Reads until the text is full or the input ends: one read may give less than there is.
+// Reads until the text is full or the input ends: one read may give less than there is. The library has no such read into fixed memory.
 fn read_full<R: Read>(from: &mut R, text: &mut [u8]) -> io::Result<usize>
     ensures room { IfOk result (λ n. n ≤ length text.new) }
     ensures front { IfOk result (λ n. IfSome (R.remaining from.old) (λ xs. take n text.new ≡ take (length text.new) xs)) }
@@ -38,11 +29,12 @@ fn read_full<R: Read>(from: &mut R, text: &mut [u8]) -> io::Result<usize>
 fn write_listing<R: Read, W: Write>(from: &mut R, to: &mut W) -> io::Result<()>
     ensures { OnOk result (IfSome (R.remaining from.old) (λ xs. Appends (W.contents to.old) (W.contents to.new) (listing xs))) }
 {
-    let mut text = input();
+    // A byte more than the longest text that is read, and room for the listing of any text.
+    let mut text = [0; LONGEST + 1];
+    let mut room = [0; ROOM];
     let read = read_full(from, &mut text)?;
-    let mut room = output();
-    let listed = listing::list(&text[..read], &mut room);
-    to.write_all(&room[..listed.length])
+    let length = listing::list(&text[..read], &mut room).unwrap();
+    to.write_all(&room[..length])
 }
 
 fn main(rt: HostRuntime) -> io::Result<()> {

@@ -1,15 +1,14 @@
 -- The C face hands on what a call did, so that it is a step of demand 3. Assumes nothing.
+use Rattle.std.specs.Prelude.{Result, Ok, Err}
 use Prim.Native.Nat.{ℕ, zero, suc, ◌<◌}
 use mathlib.Core.List.{List, []}
 use mathlib.Core.Path.{◌≡◌, refl, sym, ◌∙◌, ap}
 use native.Mathlib.Omega.{arith}
 use Rattle.book.specs.Hall.{Tables}
-use Rattle.book.specs.Call.{Call, Answer, number, answer, Done}
-use Rattle.book.specs.Contract.{of_refusal, of_edit, of_list, of_write}
+use Rattle.book.specs.Call.{Outcome, Call, Answer, number, answer, Done}
+use Rattle.book.specs.Contract.{of_refusal, of_edit}
+use Rattle.book.specs.declared.Edited.{Edited}
 use Rattle.book.specs.declared.Refusal.{Refusal}
-use Rattle.book.specs.declared.EditAnswer.{EditAnswer}
-use Rattle.book.specs.declared.ListAnswer.{ListAnswer}
-use Rattle.book.specs.declared.WriteAnswer.{WriteAnswer}
 use Rattle.host.specs.declared.HallEdited.{HallEdited}
 use Rattle.host.specs.declared.HallListed.{HallListed}
 use Rattle.host.specs.declared.HallWritten.{HallWritten}
@@ -20,21 +19,18 @@ pub handed : {c : Call} {t t' : Tables} {a : Answer} {x : Numbers} → Done c t 
 handed d e = record { left = d.left; said = e ∙ ap in_numbers d.answered }
 
 -- a refusal alone
-pub handed-number : {c : Call} {t t' : Tables} {a : Refusal} {r : ℕ} → Done c t t' (of_refusal a) → r ≡ number a → Handed c t t' (of_number r)
+pub handed-number : {c : Call} {t t' : Tables} {a : Outcome} {r : ℕ} → Done c t t' (of_refusal a) → r ≡ number a → Handed c t t' (of_number r)
 handed-number d e = handed d (ap of_number e)
 
--- an edit's, that of a call that writes and a list's, field by field
-pub handed-edit : {c : Call} {t t' : Tables} {a : EditAnswer} {x : HallEdited} → Done c t t' (of_edit a) →
-    x.refusal ≡ number a.refusal → x.touched ≡ a.touched → x.rows ≡ a.rows → x.before ≡ a.before → Handed c t t' (of_edited x)
-handed-edit d e f g h = handed d λ i. of_edited (record { refusal = e i; rows = g i; touched = f i; before = h i })
-
-pub handed-write : {c : Call} {t t' : Tables} {a : WriteAnswer} {x : HallWritten} {buffer : List ℕ} → Done c t t' (of_write a buffer) →
-    x.refusal ≡ number a.refusal → x.length ≡ a.length → Handed c t t' (of_written x buffer)
-handed-write {buffer = buffer} d e f = handed d λ i. of_written (record { refusal = e i; length = f i }) buffer
-
-pub handed-list : {c : Call} {t t' : Tables} {a : ListAnswer} {x : HallListed} → Done c t t' (of_list a) →
-    x.refusal ≡ number a.refusal → x.place ≡ a.place → x.touched ≡ a.touched → x.rows ≡ a.rows → Handed c t t' (of_listed x)
-handed-list d e p f g = handed d λ i. of_listed (record { refusal = e i; place = p i; touched = f i; rows = g i })
+-- an edit's, field by field
+pub handed-edit : {c : Call} {t t' : Tables} (a : Result Edited Refusal) {x : HallEdited} → Done c t t' (of_edit a) →
+    x.refusal ≡ number (of_edit a).refusal → x.touched ≡ (of_edit a).touched → x.rows ≡ (of_edit a).rows → x.before ≡ (of_edit a).before → Handed c t t' (of_edited x)
+handed-edit a {x} d e f g h = handed d (go a e f g h)
+  where
+    go : (a : Result Edited Refusal) → x.refusal ≡ number (of_edit a).refusal → x.touched ≡ (of_edit a).touched → x.rows ≡ (of_edit a).rows → x.before ≡ (of_edit a).before →
+        of_edited x ≡ in_numbers (of_edit a)
+    go (Ok y) e f g h = λ i. of_edited (record { refusal = e i; rows = g i; touched = f i; before = h i })
+    go (Err r) e f g h = λ i. of_edited (record { refusal = e i; rows = g i; touched = f i; before = h i })
 
 -- a call through the C face is a step of demand 3, and what it gives is its answer in numbers
 pub handed-done : {c : Call} {t t' : Tables} {x : Numbers} → Handed c t t' x → (a : Answer) × Done c t t' a × (x ≡ in_numbers a)

@@ -2,14 +2,15 @@
 // The header is host/hall.h.
 #![tactic(auto)]
 
-ghost use Rattle.std.specs.Prelude.{◌≡◌};
+ghost use Rattle.std.specs.Prelude.{◌≡◌, ℕ, List};
 ghost use Rattle.book.specs.Call.{empty_hall, work_out, audit, move_over, edit, list_routes, image_write, image_read, number, image_check};
-ghost use Rattle.book.specs.Contract.{found_layout, found, left, left_beside, found_unpassed, left_shares};
+ghost use Rattle.book.specs.Contract.{found_layout, found, left, left_beside, found_unpassed, left_shares, of_edit, of_list, of_write};
 ghost use Rattle.book.specs.declared.Kind.TheVariants.{Insert, Cheapen, Raise, Delete};
-ghost use Rattle.host.specs.Promise.{Handed, HandedList, of_number, of_edited, of_written};
+ghost use Rattle.host.specs.Promise.{in_numbers, Handed, HandedList, of_number, of_edited, of_listed, of_written};
 
+use book::lent::{Lent, LentMut};
 use book::number_of::number_of;
-use book::{Edit, Kind};
+use book::{Edit, Edited, Kind, ListEdited, ListRefused, Refusal};
 use edits::edit::edit;
 use flat_list::{edit_flat, other_kind};
 use hall::audit::audit;
@@ -21,6 +22,20 @@ use images::image_write::image_write;
 use moves::move_over;
 use route_lists::list_routes;
 
+// The tables of an exported function as one struct. It is made in the function itself, so that the check knows whose tables they are.
+macro_rules! lent_mut {
+    ($cost:ident, $passing:ident, $time:ident, $ways:ident, $share:ident, $score:ident) => {
+        LentMut {
+            cost: $cost,
+            passing: $passing,
+            time: $time,
+            ways: $ways,
+            share: $share,
+            score: $score,
+        }
+    };
+}
+
 // An edit's refusal, the number of touched sources, their set, and the cost before.
 #[repr(C)]
 #[derive(Drop)]
@@ -29,6 +44,27 @@ pub struct HallEdited {
     pub rows: u32,
     pub touched: u64,
     pub before: u32,
+}
+
+impl From<Result<Edited, Refusal>> for HallEdited {
+    ghost from_gives = { λ done e. of_edited e ≡ in_numbers (of_edit done) };
+
+    fn from(done: Result<Edited, Refusal>) -> HallEdited {
+        match done {
+            Ok(done) => HallEdited {
+                refusal: 0,
+                rows: done.rows,
+                touched: done.touched,
+                before: done.before,
+            },
+            Err(refusal) => HallEdited {
+                refusal: refusal.number(),
+                rows: 0,
+                touched: 0,
+                before: 0,
+            },
+        }
+    }
 }
 
 // The answer to a list with an edit that is none: no refusal of a call, for no call is made.
@@ -44,12 +80,50 @@ pub struct HallListed {
     pub rows: u32,
 }
 
+impl From<Result<ListEdited, ListRefused>> for HallListed {
+    ghost from_gives = { λ done l. of_listed l ≡ in_numbers (of_list done) };
+
+    fn from(done: Result<ListEdited, ListRefused>) -> HallListed {
+        match done {
+            Ok(done) => HallListed {
+                refusal: 0,
+                place: 0,
+                touched: done.touched,
+                rows: done.rows,
+            },
+            Err(refused) => HallListed {
+                refusal: refused.refusal.number(),
+                place: refused.place,
+                touched: 0,
+                rows: 0,
+            },
+        }
+    }
+}
+
 // The refusal of a call that writes bytes, and their number.
 #[repr(C)]
 #[derive(Drop)]
 pub struct HallWritten {
     pub refusal: u32,
     pub length: u64,
+}
+
+impl From<Result<usize, Refusal>> for HallWritten {
+    ghost from_gives = { λ done w. (buffer : List ℕ) → of_written w buffer ≡ in_numbers (of_write done buffer) };
+
+    fn from(done: Result<usize, Refusal>) -> HallWritten {
+        match done {
+            Ok(length) => HallWritten {
+                refusal: 0,
+                length: length as u64,
+            },
+            Err(refusal) => HallWritten {
+                refusal: refusal.number(),
+                length: 0,
+            },
+        }
+    }
 }
 
 #[unsafe(no_mangle)]
@@ -64,7 +138,7 @@ pub extern "C" fn hall_empty(
 ) -> u32
     ensures { Handed (record { n = n; ask = empty_hall passing.now }) (found cost.old passing.now time.old ways.old share.old score.old) (left cost.new passing.now time.new ways.new share.new score.new) (of_number result) }
 {
-    number_of(empty_hall(n, cost, passing, time, ways, share, score))
+    number_of(empty_hall(n, &mut lent_mut!(cost, passing, time, ways, share, score)))
 }
 
 #[unsafe(no_mangle)]
@@ -94,7 +168,7 @@ pub extern "C" fn hall_audit(
 ) -> u32
     ensures { Handed (record { n = n; ask = audit }) (found cost.now passing.now time.now ways.now share.now score.now) (found cost.now passing.now time.now ways.now share.now score.now) (of_number result) }
 {
-    number_of(audit(n, cost, passing, time, ways, share, score))
+    number_of(audit(n, &Lent::new(cost, passing, time, ways, share, score)))
 }
 
 // Tables of the old scale and limit, moved over to this one's.
@@ -112,38 +186,6 @@ pub extern "C" fn hall_move_over(
     number_of(move_over(n, cost, time, ways, share, score))
 }
 
-// An edit of any kind.
-fn edited(
-    n: u64,
-    kind: Kind,
-    u: u64,
-    v: u64,
-    c: u64,
-    cost: &mut [u32],
-    passing: &[u32],
-    time: &mut [u32],
-    ways: &mut [u32],
-    share: &mut [u64],
-    score: &mut [u64],
-) -> HallEdited
-    ensures { Handed (record { n = n; ask = edit (record { kind = kind; u = u; v = v; cost = c }) }) (found cost.old passing.now time.old ways.old share.old score.old) (left cost.new passing.now time.new ways.new share.new score.new) (of_edited result) }
-{
-    let e = Edit {
-        kind,
-        u,
-        v,
-        cost: c,
-    };
-    let done = edit(n, e, cost, passing, time, ways, share, score);
-    let refusal = done.refusal;
-    HallEdited {
-        refusal: number_of(refusal),
-        rows: done.rows,
-        touched: done.touched,
-        before: done.before,
-    }
-}
-
 #[unsafe(no_mangle)]
 pub extern "C" fn hall_insert(
     n: u64,
@@ -159,19 +201,17 @@ pub extern "C" fn hall_insert(
 ) -> HallEdited
     ensures { Handed (record { n = n; ask = edit (record { kind = Insert; u = u; v = v; cost = c }) }) (found cost.old passing.now time.old ways.old share.old score.old) (left cost.new passing.now time.new ways.new share.new score.new) (of_edited result) }
 {
-    edited(
-        n,
-        Kind::Insert,
+    let e = Edit {
+        kind: Kind::Insert,
         u,
         v,
-        c,
-        cost,
-        passing,
-        time,
-        ways,
-        share,
-        score,
-    )
+        cost: c,
+    };
+    HallEdited::from(edit(
+        n,
+        e,
+        &mut lent_mut!(cost, passing, time, ways, share, score),
+    ))
 }
 
 #[unsafe(no_mangle)]
@@ -189,19 +229,17 @@ pub extern "C" fn hall_cheapen(
 ) -> HallEdited
     ensures { Handed (record { n = n; ask = edit (record { kind = Cheapen; u = u; v = v; cost = c }) }) (found cost.old passing.now time.old ways.old share.old score.old) (left cost.new passing.now time.new ways.new share.new score.new) (of_edited result) }
 {
-    edited(
-        n,
-        Kind::Cheapen,
+    let e = Edit {
+        kind: Kind::Cheapen,
         u,
         v,
-        c,
-        cost,
-        passing,
-        time,
-        ways,
-        share,
-        score,
-    )
+        cost: c,
+    };
+    HallEdited::from(edit(
+        n,
+        e,
+        &mut lent_mut!(cost, passing, time, ways, share, score),
+    ))
 }
 
 #[unsafe(no_mangle)]
@@ -219,19 +257,17 @@ pub extern "C" fn hall_raise(
 ) -> HallEdited
     ensures { Handed (record { n = n; ask = edit (record { kind = Raise; u = u; v = v; cost = c }) }) (found cost.old passing.now time.old ways.old share.old score.old) (left cost.new passing.now time.new ways.new share.new score.new) (of_edited result) }
 {
-    edited(
-        n,
-        Kind::Raise,
+    let e = Edit {
+        kind: Kind::Raise,
         u,
         v,
-        c,
-        cost,
-        passing,
-        time,
-        ways,
-        share,
-        score,
-    )
+        cost: c,
+    };
+    HallEdited::from(edit(
+        n,
+        e,
+        &mut lent_mut!(cost, passing, time, ways, share, score),
+    ))
 }
 
 #[unsafe(no_mangle)]
@@ -248,19 +284,17 @@ pub extern "C" fn hall_delete(
 ) -> HallEdited
     ensures { Handed (record { n = n; ask = edit (record { kind = Delete; u = u; v = v; cost = 0 }) }) (found cost.old passing.now time.old ways.old share.old score.old) (left cost.new passing.now time.new ways.new share.new score.new) (of_edited result) }
 {
-    edited(
-        n,
-        Kind::Delete,
+    let e = Edit {
+        kind: Kind::Delete,
         u,
         v,
-        0,
-        cost,
-        passing,
-        time,
-        ways,
-        share,
-        score,
-    )
+        cost: 0,
+    };
+    HallEdited::from(edit(
+        n,
+        e,
+        &mut lent_mut!(cost, passing, time, ways, share, score),
+    ))
 }
 
 // A list of edits, four numbers each. One of the first 32 that has another kind or is cut short is told, and then nothing is done.
@@ -277,23 +311,19 @@ pub extern "C" fn hall_edit_numbers(
 ) -> HallListed
     ensures { HandedList n list.now (found cost.old passing.now time.old ways.old share.old score.old) (left cost.new passing.now time.new ways.new share.new score.new) result }
 {
-    let other = other_kind(list);
-    if other != 0 {
+    if let Some(place) = other_kind(list) {
         return HallListed {
             refusal: NO_KIND,
-            place: other as u32,
+            place: place as u32,
             touched: 0,
             rows: 0,
         };
     }
-    let done = edit_flat(n, list, cost, passing, time, ways, share, score);
-    let refusal = done.refusal;
-    HallListed {
-        refusal: number_of(refusal),
-        place: done.place,
-        touched: done.touched,
-        rows: done.rows,
-    }
+    HallListed::from(edit_flat(
+        n,
+        list,
+        &mut lent_mut!(cost, passing, time, ways, share, score),
+    ))
 }
 
 #[unsafe(no_mangle)]
@@ -311,12 +341,8 @@ pub extern "C" fn hall_list_routes(
 ) -> HallWritten
     ensures { Handed (record { n = n; ask = list_routes s t buffer.old }) (found cost.now passing.now time.now ways.now share.now score.now) (found cost.now passing.now time.now ways.now share.now score.now) (of_written result buffer.new) }
 {
-    let w = list_routes(n, s, t, cost, passing, time, ways, share, score, buffer);
-    let refusal = w.refusal;
-    HallWritten {
-        refusal: number_of(refusal),
-        length: w.length as u64,
-    }
+    let hall = Lent::new(cost, passing, time, ways, share, score);
+    HallWritten::from(list_routes(n, s, t, &hall, buffer))
 }
 
 #[unsafe(no_mangle)]
@@ -332,12 +358,11 @@ pub extern "C" fn hall_image_write(
 ) -> HallWritten
     ensures { Handed (record { n = n; ask = image_write buffer.old }) (found cost.now passing.now time.now ways.now share.now score.now) (found cost.now passing.now time.now ways.now share.now score.now) (of_written result buffer.new) }
 {
-    let w = image_write(n, cost, passing, time, ways, share, score, buffer);
-    let refusal = w.refusal;
-    HallWritten {
-        refusal: number_of(refusal),
-        length: w.length as u64,
-    }
+    HallWritten::from(image_write(
+        n,
+        &Lent::new(cost, passing, time, ways, share, score),
+        buffer,
+    ))
 }
 
 #[unsafe(no_mangle)]
@@ -353,7 +378,8 @@ pub extern "C" fn hall_image_read(
 ) -> u32
     ensures { Handed (record { n = n; ask = image_read image.now passing.now }) (found cost.old passing.now time.old ways.old share.old score.old) (left cost.new passing.now time.new ways.new share.new score.new) (of_number result) }
 {
-    number_of(image_read(n, image, cost, passing, time, ways, share, score))
+    let mut hall = lent_mut!(cost, passing, time, ways, share, score);
+    number_of(image_read(n, image, &mut hall))
 }
 
 // 0 for an image of a hall of n stops, else 1 or 9. Document 01 has the bytes before n.

@@ -1,4 +1,5 @@
 -- Image read, from its tests and rows to what it promises. Assumes nothing.
+use Rattle.std.specs.Prelude.{Err}
 use Prim.Native.Nat.{ℕ, ◌+◌, ◌*◌, ◌<◌}
 use mathlib.Core.Path.{◌≡◌, refl, sym, ◌∙◌}
 use mathlib.Core.Bool.{true, false}
@@ -7,11 +8,11 @@ use native.Mathlib.Numerals.{add-one}
 use native.Mathlib.Omega.{arith}
 use lib.ListN.{set}
 use Rattle.book.specs.Hall.{Layout, laid, Tables, most_ways, scale, filled, is_image, costs_of}
-use Rattle.book.specs.Call.{Call, image_read, need, rule, refusal, Done}
+use Rattle.book.specs.Call.{Call, image_read, need, rule, refusal, Done, Accepted}
 use Rattle.book.specs.Contract.{tables, of_refusal, Inside}
 use Rattle.book.proofs.Refused.{refused-done}
 use Rattle.book.proofs.Doors.{behind-door, accepted-done}
-use Rattle.book.specs.declared.Refusal.TheVariants.{Accepted, BadImage}
+use Rattle.book.specs.declared.Refusal.TheVariants.{BadImage}
 use Rattle.book.proofs.Records.{from, to, cost_at, costs_to, costs-more}
 use Rattle.book.proofs.Images.{Image, length-read, read-valid}
 use Rattle.cells.specs.Promise.{Shares, summed}
@@ -44,9 +45,9 @@ module _ (n : ℕ) (image cost passing time ways share score : List ℕ) (i : In
   unfolding rule
   read-refusal = behind-door call found (passing-fits n found) refl i
 
-  pub read-broken : is_image n image ≡ false → Done call found found (of_refusal BadImage)
+  pub read-broken : is_image n image ≡ false → Done call found found (of_refusal (Err BadImage))
   unfolding rule
-  read-broken e = refused-done call found BadImage (read-refusal ∙ rw e) refl
+  read-broken e = refused-done call found (Err BadImage) (read-refusal ∙ rw e) refl
 
   module _ (whole : is_image n image ≡ true) {cost' time' ways' share' : List ℕ} (costs : cost' ≡ costs_of n image) (a : Worked most_ways scale n (laid cost' passing) time' ways' share') where
     -- the rows of the image's hall

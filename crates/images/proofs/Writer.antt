@@ -1,32 +1,44 @@
 -- The steps of an image's writer. Assumes nothing.
-use Prim.Native.Nat.{ℕ, zero, suc, ◌+◌, ◌*◌, ◌/◌, ◌%◌, ◌<◌, ◌≤◌}
-use mathlib.Core.Path.{◌≡◌, refl, sym, ◌∙◌, ap}
-use mathlib.Core.List.{List, ◌++◌}
-use native.Mathlib.Nat.{add-zero, zero-mul, suc-mul, div-div-eq-div-mul}
+use Rattle.std.specs.Prelude.{Err, Ok}
+use Prim.Native.Nat.{ℕ, zero, suc, ◌+◌, ◌*◌, ◌<◌, ◌≤◌}
+use mathlib.Core.Path.{◌≡◌, refl, sym, ◌∙◌}
+use mathlib.Core.List.{List, ◌∷◌, ◌++◌}
+use mathlib.Core.Bool.{Bool, true, false, cond}
+use native.Mathlib.Nat.{add-zero, zero-mul, suc-mul}
 use native.Mathlib.Numerals.{add-one}
 use native.Mathlib.Omega.{arith}
 use lib.ListN.{length, get_or, drop}
+use lib.Dec.{ltb}
 use lib.Seq.{sets}
+use Rattle.std.specs.List.{count_by}
+use Rattle.std.proofs.lemmas.List.Recursion.{is_count_by}
+use Rattle.routes.proofs.Counting.{sum_to-shift}
 use Rattle.routes.specs.Route.{sum_to}
 use Rattle.book.specs.Hall.{entry, image_of}
 use Rattle.book.specs.Contract.{of_write, stored}
 use Rattle.book.proofs.Buffers.{stored_short, stored-whole}
-use Rattle.book.specs.declared.Refusal.TheVariants.{Accepted, ShortBuffer}
+use Rattle.book.specs.declared.Refusal.TheVariants.{ShortBuffer}
 use Rattle.book.proofs.Bytes.{stored as put}
 use Rattle.book.specs.Written.{link_record, records_to, links_to, trailer}
 use Rattle.book.proofs.Writer.{records-none, records-more, records-row, links-more, links-row, links-grow, length-record, length-records, length-image, trailer-stored}
 use Rattle.images.specs.Promise.{link_bit, link_bytes, links, Wrote}
 
--- the bytes of a number's low half and of its high half are its four bytes
-pub half-bytes : (x : ℕ) →
-    (x % 65536 % 256 ≡ x % 256) × (x % 65536 / 256 % 256 ≡ x / 256 % 256) × (x / 65536 % 256 ≡ x / 256 / 256 % 256) ×
-    (x / 65536 / 256 % 256 ≡ x / 256 / 256 / 256 % 256)
-half-bytes x =
-    let high : x / 65536 ≡ x / 256 / 256 = sym (div-div-eq-div-mul x 256 256) in
-    (omega arith, middle x, ap (λ y. y % 256) high, ap (λ y. y / 256 % 256) high)
+-- the members that pass a test, counted one after another
+counted : (p : ℕ → Bool) (l : List ℕ) → count_by p l ≡ sum_to (length l) (λ i. cond (p (get_or l i 0)) 1 0)
+unfolding sum_to
+counted p l = sym (is_count_by (λ l. sum_to (length l) (λ i. cond (p (get_or l i 0)) 1 0)) p refl more l)
   where
-    middle : (x : ℕ) → x % 65536 / 256 % 256 ≡ x / 256 % 256
-    middle x = let low : x % 65536 / 256 ≡ x / 256 % 256 = omega arith in omega arith
+    by : (b : Bool) (k : ℕ) → cond b 1 0 + k ≡ cond b (1 + k) k
+    by true k = refl
+    by false k = omega arith
+
+    more : (x : ℕ) (xs : List ℕ) → sum_to (length (x ∷ xs)) (λ i. cond (p (get_or (x ∷ xs) i 0)) 1 0) ≡
+        cond (p x) (1 + sum_to (length xs) (λ i. cond (p (get_or xs i 0)) 1 0)) (sum_to (length xs) (λ i. cond (p (get_or xs i 0)) 1 0))
+    more x xs = sum_to-shift (length xs) (λ i. cond (p (get_or (x ∷ xs) i 0)) 1 0) ∙ by (p x) (sum_to (length xs) (λ i. cond (p (get_or xs i 0)) 1 0))
+
+-- links are counted so
+pub links-count : (cost : List ℕ) → count_by (ltb 0) cost ≡ links cost
+links-count cost = counted (ltb 0) cost
 
 -- a sum in two parts, and in rows
 sum_to-append : (a b : ℕ) (f : ℕ → ℕ) → sum_to (a + b) f ≡ sum_to a f + sum_to b (λ i. f (a + i))
@@ -89,12 +101,12 @@ module _ (n : ℕ) (cost : List ℕ) where
     image-size = omega (arith, length-image n cost, links-all n cost square)
 
     -- too short a buffer
-    pub store-short : (b : List ℕ) → length b < 4 * c + 8 → of_write (record { refusal = ShortBuffer; length = 0 }) b ≡ stored (image_of n cost) b
+    pub store-short : (b : List ℕ) → length b < 4 * c + 8 → of_write (Err ShortBuffer) b ≡ stored (image_of n cost) b
     store-short b h = stored_short (image_of n cost) (4 * c + 8) image-size b h
 
     -- all records, and the trailer behind them
     pub store-whole : {at : ℕ} {b rows all : List ℕ} → 4 * c + 8 ≤ length b → Wrote n cost 0 0 0 n 0 at b rows →
-        all ≡ sets rows at (trailer n c) → of_write (record { refusal = Accepted; length = 4 * c + 8 }) all ≡ stored (image_of n cost) b
+        all ≡ sets rows at (trailer n c) → of_write (Ok (4 * c + 8)) all ≡ stored (image_of n cost) b
     store-whole {at} {b} {rows} {all} h w f =
         let none : b ≡ records_to n (entry n cost) 0 0 ++ drop 0 b = rw (records-none n (entry n cost)) in
         let total : c ≡ links_to n (entry n cost) n 0 = count ∙ links-all n cost square in

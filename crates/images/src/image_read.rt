@@ -2,26 +2,17 @@
 ghost use Rattle.std.specs.Prelude.{◌≡◌, true, ◌*◌, ◌≤◌, length, replicate};
 ghost use Rattle.book.specs.Hall.{is_image, costs_of};
 ghost use Rattle.book.specs.Call.{image_read, Done};
-ghost use Rattle.book.specs.Contract.{these, found, left, of_refusal, Inside};
+ghost use Rattle.book.specs.Contract.{held, SameLoans, of_refusal, Inside};
 
 use book::Refusal;
-use book::limits::Hall;
-use book::number_of::passes;
+use book::lent::LentMut;
 use cells::{places, scores};
 use hall::door::door;
 use image_form::{fields, image_check};
 use tables::fill_all::fill_all;
+use tables::measures;
 
-// A table without links.
-fn no_links(cost: &mut [u32])
-    ensures { cost.new ≡ replicate (length cost.old) 0 }
-{
-    for i in 0..cost.len() {
-        cost[i] = 0;
-    }
-}
-
-// Sets the costs of an image's links in such a table.
+// Sets the costs of an image's links in a table without links, record by record: the definition of the costs counts records too.
 fn read_costs(n: usize, image: &[u8], cost: &mut [u32])
     requires { (n ≤ 64) × (is_image n image.now ≡ true) × (cost.old ≡ replicate (n * n) 0) }
     ensures { cost.new ≡ costs_of n image.now }
@@ -37,44 +28,28 @@ fn read_costs(n: usize, image: &[u8], cost: &mut [u32])
 }
 
 // Image read behind the door: test 9, and the tables.
-fn read_tables(
-    n: usize,
-    image: &[u8],
-    cost: &mut [u32],
-    passing: &[u32],
-    time: &mut [u32],
-    ways: &mut [u32],
-    share: &mut [u64],
-    score: &mut [u64],
-) -> Refusal
-    requires { Inside n (these cost.old passing.now time.old ways.old share.old score.old) }
-    ensures { Done (record { n = n; ask = image_read image.now passing.now }) (found cost.old passing.now time.old ways.old share.old score.old) (left cost.new passing.now time.new ways.new share.new score.new) (of_refusal result) }
+fn read_tables(n: usize, image: &[u8], t: &mut LentMut<'_>) -> Result<(), Refusal>
+    requires { Inside n (held t.old) }
+    ensures loans { SameLoans t.old t.new }
+    ensures done { Done (record { n = n; ask = image_read image.now t.old.passing.now }) (held t.old) (held t.new) (of_refusal result) }
 {
     if !image_check::is_image(n, image) {
-        return Refusal::BadImage;
+        return Err(Refusal::BadImage);
     }
-    no_links(cost);
+    let passing = t.passing;
+    let cost = &mut *t.cost;
+    let share = &mut *t.share;
+    cost.fill(0);
     read_costs(n, image, cost);
-    fill_all(Hall::WAYS, Hall::SCALE, n, cost, passing, time, ways, share);
-    scores::sum_scores(n, share, score);
-    Refusal::Accepted
+    fill_all(measures::present(), n, cost, passing, t.time, t.ways, share);
+    scores::sum_scores(n, share, t.score);
+    Ok(())
 }
 
-pub fn image_read(
-    n: u64,
-    image: &[u8],
-    cost: &mut [u32],
-    passing: &[u32],
-    time: &mut [u32],
-    ways: &mut [u32],
-    share: &mut [u64],
-    score: &mut [u64],
-) -> Refusal
-    ensures { Done (record { n = n; ask = image_read image.now passing.now }) (found cost.old passing.now time.old ways.old share.old score.old) (left cost.new passing.now time.new ways.new share.new score.new) (of_refusal result) }
+pub fn image_read(n: u64, image: &[u8], t: &mut LentMut<'_>) -> Result<(), Refusal>
+    ensures loans { SameLoans t.old t.new }
+    ensures done { Done (record { n = n; ask = image_read image.now t.old.passing.now }) (held t.old) (held t.new) (of_refusal result) }
 {
-    let verdict = door(n, cost, passing, time, ways, share, score);
-    if !passes(verdict) {
-        return verdict;
-    }
-    read_tables(n as usize, image, cost, passing, time, ways, share, score)
+    door(n, &t.view())?;
+    read_tables(n as usize, image, t)
 }

@@ -1,179 +1,171 @@
 // What the lister lists for the halls of the calls, and how much of what a call answered and left is
 // otherwise.
-use super::reading;
+use super::stops::Hall;
+use book::{Edit, Kind};
 use calls::answer::Answer;
-use calls::call::{Call, DELETE};
-use calls::compare::{differing, sum, unlike};
-use calls::entries::{at, at_long, put};
-use calls::list::{List, edit_at};
-use calls::tables::{CELLS, Tables, cells, link, place};
-use make_call::Done;
+use calls::compare::sum;
+use calls::entries::{between, narrow};
+use calls::list::List;
+use calls::tables::{CELLS, Tables, cells};
 
-// The most ways of a pair that is not crowded and what a whole share counts, and both before.
-const LIMIT: u32 = 12;
+// The most ways of a pair that is not crowded, and what a whole share counts.
+#[derive(Clone, Copy)]
+struct Numbers {
+    limit: u32,
+    scale: u32,
+}
 
-const SCALE: u32 = 27720;
+const TODAY: Numbers = Numbers {
+    limit: 12,
+    scale: 27720,
+};
 
-const OLD_LIMIT: u32 = 22;
+const BEFORE: Numbers = Numbers {
+    limit: 22,
+    scale: 232792560,
+};
 
-const OLD_SCALE: u32 = 232792560;
+impl Numbers {
+    // No pair has more ways.
+    fn unlimited(self) -> Numbers {
+        Numbers {
+            limit: u32::MAX,
+            scale: self.scale,
+        }
+    }
 
-// No pair has more ways.
-const NO_LIMIT: u32 = 4294967295;
+    // The hall's tables, but for the lister's times, ways, shares and scores of its costs and passing times.
+    fn tables(self, hall: &Hall) -> Tables {
+        let given = &hall.tables;
+        let mut listed = hall.tables;
+        let mut times = [0u64; CELLS];
+        let mut counts = [0u64; CELLS];
+        lister::tables(
+            &given.cost,
+            &given.passing,
+            hall.n,
+            self.limit,
+            self.scale,
+            &mut times,
+            &mut counts,
+            &mut listed.share,
+            &mut listed.score,
+        );
+        narrowed(&times, cells(hall.n), &mut listed.time);
+        narrowed(&counts, cells(hall.n), &mut listed.ways);
+        listed
+    }
+}
 
 // Takes the first entries over from a table of 64 bits.
-fn narrowed(from: &[u64], count: usize, table: &mut [u32; CELLS]) {
-    for i in 0..count {
-        put(table, i, at_long(from, i));
+fn narrowed(from: &[u64], count: usize, table: &mut [u32]) {
+    for (entry, x) in table.iter_mut().zip(from).take(count) {
+        *entry = narrow(*x);
     }
 }
 
-// The tables t, but for the lister's times, ways, shares and scores of their costs and passing times.
-fn by(n: u64, limit: u32, scale: u32, t: Tables) -> Tables {
-    let cost = t.cost;
-    let passing = t.passing;
-    let mut times = [0u64; CELLS];
-    let mut counts = [0u64; CELLS];
-    let mut time = t.time;
-    let mut ways = t.ways;
-    let mut share = t.share;
-    let mut score = t.score;
-    lister::tables(
-        &cost,
-        &passing,
-        n,
-        limit,
-        scale,
-        &mut times,
-        &mut counts,
-        &mut share,
-        &mut score,
-    );
-    narrowed(&times, cells(n), &mut time);
-    narrowed(&counts, cells(n), &mut ways);
-    Tables {
-        cost,
-        passing,
-        time,
-        ways,
-        share,
-        score,
-    }
-}
-
-pub fn listed(n: u64, t: Tables) -> Tables {
-    by(n, LIMIT, SCALE, t)
+fn with_tables(hall: &Hall, tables: Tables) -> Hall {
+    Hall { n: hall.n, tables }
 }
 
 // As if no pair were crowded.
-pub fn unlimited(n: u64, t: Tables) -> Tables {
-    by(n, NO_LIMIT, SCALE, t)
+pub fn unlimited(hall: &Hall) -> Hall {
+    with_tables(hall, TODAY.unlimited().tables(hall))
 }
 
 // By the old numbers.
-pub fn old(n: u64, t: Tables) -> Tables {
-    by(n, OLD_LIMIT, OLD_SCALE, t)
+pub fn old(hall: &Hall) -> Hall {
+    with_tables(hall, BEFORE.tables(hall))
 }
 
 // By the old scale, as if no pair were crowded.
-pub fn old_unlimited(n: u64, t: Tables) -> Tables {
-    by(n, NO_LIMIT, OLD_SCALE, t)
+pub fn old_unlimited(hall: &Hall) -> Hall {
+    with_tables(hall, BEFORE.unlimited().tables(hall))
 }
 
 // The entries of the tables left that are not those of the costs `wanted`.
-pub fn unlisted_tables(n: u64, wanted: Tables, left: Tables) -> u64 {
-    differing(listed(n, wanted), left)
+pub fn unlisted_tables(wanted: &Hall, left: &Hall) -> u64 {
+    TODAY.tables(wanted).unlike(&left.tables)
 }
 
 // The most ways of a pair, by the lister, which counts them all.
-pub fn most_ways(n: u64, t: Tables) -> u64 {
-    reading::most_ways(n, unlimited(n, t))
+pub fn most_ways(hall: &Hall) -> u32 {
+    unlimited(hall).most_ways()
 }
 
 // The sources from which a quickest route, before or after, uses the link of an edit.
-fn touched_by(call: Call, before: Tables, after: Tables) -> u64 {
-    let passing = before.passing;
-    lister::touched(&before.cost, &after.cost, &passing, call.n, call.u, call.v)
-}
-
-// The sources that an edit touches; none where it is refused.
-fn touched(call: Call, before: Tables, after: Tables, refusal: u64) -> u64 {
-    if refusal != 0 {
-        return 0;
-    }
-    touched_by(call, before, after)
-}
-
-// What an edit's link cost before it; 0 where the edit is refused.
-fn cost_before(call: Call, before: Tables, refusal: u64) -> u64 {
-    if refusal != 0 {
-        return 0;
-    }
-    at(&before.cost, place(call.n, call.u, call.v))
-}
-
-// How many of an edit's set and number are not the lister's, and its cost before if it is not that of the tables before.
-pub fn unlisted_answer(call: Call, before: Tables, after: Tables, answer: Answer) -> u64 {
-    let set = touched(call, before, after, answer.refusal);
-    let cost = cost_before(call, before, answer.refusal);
-    sum(
-        unlike(answer.touched, set),
-        unlike(answer.rows, lister::number(set)),
-        unlike(answer.before, cost),
-        0,
-        0,
+fn touched(edit: Edit, before: &Hall, after: &Hall) -> u64 {
+    let given = &before.tables;
+    lister::touched(
+        &given.cost,
+        &after.tables.cost,
+        &given.passing,
+        before.n,
+        edit.u,
+        edit.v,
     )
 }
 
-// How much of what an edit answered and, where it was accepted, left is not the lister's; `after` are
-// the tables before it with the cost that it brings.
-pub fn unlisted(call: Call, before: Tables, after: Tables, done: Done) -> u64 {
-    let answer = done.answer;
-    let answers = unlisted_answer(call, before, after, answer);
-    if answer.refusal != 0 {
-        return answers;
+// How many of an edit's set, number and cost before are not the lister's and that of the hall before; of a refused edit they are 0.
+pub fn unlisted_answer(edit: Edit, before: &Hall, after: &Hall, answer: &Answer) -> u64 {
+    let mut set = 0;
+    let mut cost = 0;
+    if answer.refusal.is_none() {
+        set = touched(edit, before, after);
+        cost = between(&before.tables.cost, before.n, edit.u, edit.v);
     }
-    let left = done.tables;
-    std::num::wrapping_add_u64(answers, unlisted_tables(call.n, after, left))
+    sum(&[
+        u64::from(answer.touched != set),
+        u64::from(answer.rows != lister::number(set)),
+        u64::from(answer.before != cost),
+    ])
 }
 
-// The tables before a list with the costs that its edits leave, and the sources that these touch.
+// How much of what an edit answered and, where it was accepted, left is not the lister's; `after` is
+// the hall before it with the cost that it brings.
+pub fn unlisted(edit: Edit, before: &Hall, after: &Hall, answer: &Answer, left: &Hall) -> u64 {
+    let answers = unlisted_answer(edit, before, after, answer);
+    match answer.refusal {
+        None => answers.wrapping_add(unlisted_tables(after, left)),
+        Some(_) => answers,
+    }
+}
+
+// The hall before a list with the costs that its edits leave, and the sources that these touch.
 #[derive(Clone, Copy)]
 pub struct Passed {
-    pub tables: Tables,
+    pub hall: Hall,
     pub touched: u64,
 }
 
-// The cost that an edit gives its link, 0 for none.
-fn cost_set(call: Call) -> u64 {
-    if call.number == DELETE { 0 } else { call.cost }
-}
-
 // One edit more.
-fn step(call: Call, before: Passed) -> Passed {
-    let t = before.tables;
-    let tables = link(call.n, call.u, call.v, cost_set(call), t);
-    let set = touched_by(call, t, tables);
+fn step(edit: Edit, before: Passed) -> Passed {
+    let cost = match edit.kind {
+        Kind::Delete => 0,
+        _ => edit.cost,
+    };
+    let hall = before.hall.with_link(edit.u, edit.v, cost);
     Passed {
-        tables,
-        touched: before.touched | set,
+        hall,
+        touched: before.touched | touched(edit, &before.hall, &hall),
     }
 }
 
-// After the first edits of a list.
-pub fn after(n: u64, list: List, count: usize, t: Tables) -> Passed {
+pub fn after(list: &List, hall: &Hall) -> Passed {
     let mut passed = Passed {
-        tables: t,
+        hall: *hall,
         touched: 0,
     };
-    for i in 0..count {
-        passed = step(edit_at(list, n, i), passed);
+    for edit in list.edits() {
+        passed = step(*edit, passed);
     }
     passed
 }
 
 // How many of an answer's set and number are not those of a union.
-pub fn unlisted_set(set: u64, answer: Answer) -> u64 {
-    let rows = unlike(answer.rows, lister::number(set));
-    std::num::wrapping_add_u64(unlike(answer.touched, set), rows)
+pub fn unlisted_set(set: u64, answer: &Answer) -> u64 {
+    sum(&[
+        u64::from(answer.touched != set),
+        u64::from(answer.rows != lister::number(set)),
+    ])
 }

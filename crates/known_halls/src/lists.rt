@@ -1,157 +1,116 @@
 // Lists of edits: a shift change, the longest list and one that is too long, and a crowded pair in passing.
-use super::report::{no_inserts, reached};
-use super::text::{end, say};
+use super::change::{delete, insert};
+use super::line;
+use super::report::Inserts;
+use super::stops::Hall;
 use super::ways::fan;
-use super::{line, report};
-use calls::call::{DELETE, INSERT};
-use calls::list::{List, no_edits, then};
-use calls::tables::{Tables, filled, link};
+use calls::list::List;
 use std::io;
 
-// A list; says whether the tables are t then.
-fn made(
-    rt: &impl Print,
-    name: &str,
-    n: u64,
-    list: List,
-    before: Tables,
-    t: Tables,
-) -> io::Result<Tables> {
-    let left = report::list(rt, name, n, list, before)?;
-    report::same(rt, left, t)?;
-    report::audit(rt, n, left)?;
-    end(rt)?;
-    Ok(left)
-}
-
 // Two ways from stop 0 to stop 3, by stop 1 and by stop 2.
-pub fn diamond(rt: &impl Print) -> io::Result<Tables> {
-    let first = link(4, 0, 1, 5, link(4, 1, 3, 5, filled(0, 0)));
-    report::worked(rt, 4, link(4, 0, 2, 5, link(4, 2, 3, 5, first)))
+pub fn diamond(rt: &impl Print) -> io::Result<Hall> {
+    let first = Hall::empty(4).with_link(1, 3, 5).with_link(0, 1, 5);
+    first.with_link(2, 3, 5).with_link(0, 2, 5).worked(rt)
 }
 
 // The link from 1 to 3 closes and one from 1 to 2 opens.
-fn changed(rt: &impl Print, t: Tables) -> io::Result<Tables> {
-    let list = then(then(no_edits(), DELETE, 1, 3, 0), INSERT, 1, 2, 2);
-    let left = made(rt, "delete 1 3, insert 1 2: ", 4, list, t, t)?;
-    report::stop(rt, 1, left)?;
-    report::stop(rt, 2, left)?;
+fn changed(rt: &impl Print, hall: &Hall) -> io::Result<Hall> {
+    let list = List::of(&[delete(1, 3), insert(1, 2, 2)]);
+    let left = hall.listed(rt, "delete 1 3, insert 1 2: ", list, hall)?;
+    left.stop(rt, 1)?;
+    left.stop(rt, 2)?;
     Ok(left)
 }
 
 // And back.
-fn changed_back(rt: &impl Print, after: Tables, t: Tables) -> io::Result<Tables> {
-    let list = then(then(no_edits(), DELETE, 1, 2, 0), INSERT, 1, 3, 5);
-    made(rt, "delete 1 2, insert 1 3: ", 4, list, after, t)
+fn changed_back(rt: &impl Print, after: &Hall, hall: &Hall) -> io::Result<Hall> {
+    let list = List::of(&[delete(1, 2), insert(1, 3, 5)]);
+    after.listed(rt, "delete 1 2, insert 1 3: ", list, hall)
 }
 
 // A link that is deleted twice, and a list without edits.
-fn not_changed(rt: &impl Print, t: Tables) -> io::Result<()> {
-    let once = then(then(no_edits(), INSERT, 1, 2, 2), DELETE, 1, 3, 0);
-    let twice = then(once, DELETE, 1, 3, 0);
-    let left = made(rt, "insert 1 2, delete 1 3, delete 1 3: ", 4, twice, t, t)?;
-    made(rt, "no edits: ", 4, no_edits(), left, t)?;
+fn not_changed(rt: &impl Print, hall: &Hall) -> io::Result<()> {
+    let twice = List::of(&[insert(1, 2, 2), delete(1, 3), delete(1, 3)]);
+    let left = hall.listed(rt, "insert 1 2, delete 1 3, delete 1 3: ", twice, hall)?;
+    left.listed(rt, "no edits: ", List::new(), hall)?;
     Ok(())
 }
 
 pub fn shift_change(rt: &impl Print) -> io::Result<()> {
-    say(rt, "a shift change in one go, 4 stops\n")?;
-    let t = diamond(rt)?;
-    not_changed(rt, changed_back(rt, changed(rt, t)?, t)?)
+    println!(rt; "a shift change in one go, 4 stops")?;
+    let hall = diamond(rt)?;
+    let after = changed(rt, &hall)?;
+    not_changed(rt, &changed_back(rt, &after, &hall)?)
 }
 
 // The first inserts of a line's links, of the largest cost.
 pub fn inserts(count: u64) -> List {
-    let mut list = no_edits();
-    for u in 0..count {
-        list = then(list, INSERT, u, std::num::wrapping_add_u64(u, 1), 65535);
-    }
-    list
+    (0..count).fold(List::new(), |list, u| {
+        list.with(insert(u, u.wrapping_add(1), 65535))
+    })
 }
 
 // Lists that are refused: one of 33 edits, and one of 32 whose last edit is refused.
-fn not_made(rt: &impl Print, t: Tables) -> io::Result<Tables> {
-    let more = made(rt, "33 inserts: ", 34, inserts(33), t, t)?;
-    let last = then(inserts(31), INSERT, 0, 1, 1);
-    made(rt, "31 inserts, insert 0 1: ", 34, last, more, t)
+fn not_made(rt: &impl Print, hall: &Hall) -> io::Result<Hall> {
+    let more = hall.listed(rt, "33 inserts: ", inserts(33), hall)?;
+    let last = inserts(31).with(insert(0, 1, 1));
+    more.listed(rt, "31 inserts, insert 0 1: ", last, hall)
 }
 
-// The same links by inserts; the tables are to be t.
-fn one_by_one(rt: &impl Print, t: Tables) -> io::Result<()> {
-    let empty = report::empty_hall(rt, "inserts: empty hall ", 34, filled(0, 0))?;
-    reached(rt, 34, line::insert_links(34, 32, no_inserts(empty)), t)
+// The same links by inserts; the tables are to be those of the hall.
+fn one_by_one(rt: &impl Print, hall: &Hall) -> io::Result<()> {
+    let empty = Hall::empty(34).empty_hall(rt, "inserts: empty hall ")?;
+    line::insert_links(32, Inserts::none(empty)).reached(rt, hall)
 }
 
 pub fn most_edits(rt: &impl Print) -> io::Result<()> {
-    say(rt, "lists of 32 and 33 edits, 34 stops\n")?;
-    let empty = report::empty_hall(rt, "empty hall ", 34, filled(0, 0))?;
-    end(rt)?;
-    let t = made(
-        rt,
-        "32 inserts: ",
-        34,
-        inserts(32),
-        not_made(rt, empty)?,
-        empty,
-    )?;
-    report::pair(rt, 32, t)?;
-    report::stop(rt, 16, t)?;
-    one_by_one(rt, t)
+    println!(rt; "lists of 32 and 33 edits, 34 stops")?;
+    let empty = Hall::empty(34).empty_hall(rt, "empty hall ")?;
+    println!(rt)?;
+    let still = not_made(rt, &empty)?;
+    let hall = still.listed(rt, "32 inserts: ", inserts(32), &empty)?;
+    hall.pair(rt, 32)?;
+    hall.stop(rt, 16)?;
+    one_by_one(rt, &hall)
 }
 
 // The link of 9 closes and opens again: the pair is crowded between.
-fn crowded(rt: &impl Print, t: Tables) -> io::Result<()> {
-    let closed = then(then(no_edits(), INSERT, 14, 0, 7), DELETE, 0, 14, 0);
-    let list = then(closed, INSERT, 0, 14, 9);
-    made(
-        rt,
-        "insert 14 0, delete 0 14, insert 0 14: ",
-        15,
-        list,
-        t,
-        t,
-    )?;
+fn crowded(rt: &impl Print, hall: &Hall) -> io::Result<()> {
+    let list = List::of(&[insert(14, 0, 7), delete(0, 14), insert(0, 14, 9)]);
+    hall.listed(rt, "insert 14 0, delete 0 14, insert 0 14: ", list, hall)?;
     Ok(())
 }
 
 // It closes, and then a link of the last way, so that 12 are left; or it closes twice.
-fn closed(rt: &impl Print, t: Tables) -> io::Result<()> {
-    let once = then(no_edits(), DELETE, 0, 14, 0);
-    let left = made(
-        rt,
-        "delete 0 14, delete 13 14: ",
-        15,
-        then(once, DELETE, 13, 14, 0),
-        t,
-        t,
-    )?;
-    report::pair(rt, 14, left)?;
-    report::middle(rt, 13, 14, left)?;
-    let twice = then(once, DELETE, 0, 14, 0);
-    made(rt, "delete 0 14, delete 0 14: ", 15, twice, t, t)?;
-    let crowded = made(rt, "delete 0 14: ", 15, once, t, t)?;
-    report::pair(rt, 14, crowded)
+fn closed(rt: &impl Print, hall: &Hall) -> io::Result<()> {
+    let once = List::of(&[delete(0, 14)]);
+    let both = once.with(delete(13, 14));
+    let left = hall.listed(rt, "delete 0 14, delete 13 14: ", both, hall)?;
+    left.pair(rt, 14)?;
+    left.middle(rt, 13, 14)?;
+    let twice = once.with(delete(0, 14));
+    hall.listed(rt, "delete 0 14, delete 0 14: ", twice, hall)?;
+    let crowded = hall.listed(rt, "delete 0 14: ", once, hall)?;
+    crowded.pair(rt, 14)
 }
 
 // Before it closes and behind it a link of the last way does so too.
-fn uncrowded(rt: &impl Print, t: Tables) -> io::Result<()> {
-    let closed = then(then(no_edits(), DELETE, 13, 14, 0), DELETE, 0, 14, 0);
-    let list = then(then(closed, INSERT, 0, 14, 9), INSERT, 13, 14, 5);
-    made(
-        rt,
-        "delete 13 14, delete 0 14, insert 0 14, insert 13 14: ",
-        15,
-        list,
-        t,
-        t,
-    )?;
+fn uncrowded(rt: &impl Print, hall: &Hall) -> io::Result<()> {
+    let list = List::of(&[
+        delete(13, 14),
+        delete(0, 14),
+        insert(0, 14, 9),
+        insert(13, 14, 5),
+    ]);
+    let name = "delete 13 14, delete 0 14, insert 0 14, insert 13 14: ";
+    hall.listed(rt, name, list, hall)?;
     Ok(())
 }
 
 pub fn in_passing(rt: &impl Print) -> io::Result<()> {
-    say(rt, "13 ways of time 10 in passing, 15 stops\n")?;
-    let t = report::worked(rt, 15, link(15, 0, 14, 9, fan(15, 14)))?;
-    crowded(rt, t)?;
-    closed(rt, t)?;
-    uncrowded(rt, t)
+    println!(rt; "13 ways of time 10 in passing, 15 stops")?;
+    let hall = fan(15, 14).with_link(0, 14, 9).worked(rt)?;
+    crowded(rt, &hall)?;
+    closed(rt, &hall)?;
+    uncrowded(rt, &hall)
 }

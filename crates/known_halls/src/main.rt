@@ -2,6 +2,7 @@
 // and leave against the slow lister, and writes both.
 #![tactic(auto)]
 
+mod change;
 mod crowded;
 mod line;
 mod listed;
@@ -9,10 +10,10 @@ mod lists;
 mod moved;
 mod passing;
 mod quickest;
-mod reading;
 mod report;
 mod sizes;
 mod smallest;
+mod stops;
 mod sums;
 mod text;
 mod ways;

@@ -1,283 +1,256 @@
 // Calls with what they answered written behind a name, and what the lister says of it; and lines on
-// what tables hold. A call's function gives the tables that it left.
-use super::text::{end, field, say};
-use super::{listed, reading};
+// what tables hold. A call's method gives the hall that it left.
+use super::change::insert;
+use super::listed;
+use super::stops::Hall;
+use book::{Edit, Refusal};
 use calls::answer::Answer;
-use calls::call::{
-    AUDIT, Call, EDIT_LIST, EMPTY_HALL, IMAGE_READ, IMAGE_WRITE, INSERT, MOVE_OVER, WORK_OUT, plain,
-};
-use calls::compare::differing;
-use calls::list::{List, no_edits};
-use calls::tables::{Tables, filled, link};
-use make_call::{Done, check, make};
+use calls::call::{Act, Call};
+use calls::entries::at;
+use calls::list::List;
+use make_call::{check, make};
 use std::io;
 
-// Makes a call that writes no image.
-fn made(call: Call, image: &[u8], t: Tables) -> Done {
-    let mut none = [0u8; 1];
-    make(call, no_edits(), call.n, 0, image, &mut none, t)
+// What a count of differences says.
+pub fn count(rt: &impl Print, none: &str, some: &str, differ: u64) -> io::Result<()> {
+    match differ {
+        0 => print!(rt; "{none}"),
+        _ => print!(rt; "{some}{differ}"),
+    }
 }
 
 // Holds a call against the lister. An accepted one is to leave the costs `wanted` and their listed
-// tables, and `unlisted` counts what else of it is not the lister's; a moving call that is refused with 11
-// met `wanted`. Of both the lister tells the most ways of a pair.
+// tables, and `unlisted` counts what else of it is not the lister's; a moving call that is refused for its
+// ways met `wanted`. Of both the lister tells the most ways of a pair.
 fn held(
     rt: &impl Print,
-    n: u64,
-    refusal: u64,
+    refusal: Option<Refusal>,
     unlisted: u64,
-    wanted: Tables,
-    left: Tables,
+    wanted: &Hall,
+    left: &Hall,
 ) -> io::Result<()> {
-    if refusal == 0 {
-        let entries = listed::unlisted_tables(n, wanted, left);
-        let count = std::num::wrapping_add_u64(unlisted, entries);
-        if count == 0 {
-            say(rt, ", lister agrees")?;
-        } else {
-            field(rt, ", entries that differ from the lister's ", count)?;
+    match refusal {
+        None => {
+            let differ = unlisted.wrapping_add(listed::unlisted_tables(wanted, left));
+            count(
+                rt,
+                ", lister agrees",
+                ", entries that differ from the lister's ",
+                differ,
+            )?;
+            print!(rt; ", its most ways {}", listed::most_ways(wanted))
         }
-        field(rt, ", its most ways ", listed::most_ways(n, wanted))?;
+        Some(Refusal::TooManyWays) => {
+            print!(rt; ", lister's most ways {}", listed::most_ways(wanted))
+        }
+        Some(_) => Ok(()),
     }
-    if refusal == 11 {
-        field(rt, ", lister's most ways ", listed::most_ways(n, wanted))?;
+}
+
+impl Hall {
+    // Makes a call with an image and a buffer.
+    pub fn asked(&self, act: Act, image: &[u8], buffer: &mut [u8]) -> (Answer, Hall) {
+        let mut left = *self;
+        let call = Call { n: self.n, act };
+        let answer = make(call, self.n, None, image, buffer, &mut left.tables);
+        (answer, left)
     }
-    Ok(())
-}
 
-// A call that brings no link and is to leave the costs `wanted`.
-fn said(
-    rt: &impl Print,
-    name: &str,
-    number: u64,
-    n: u64,
-    t: Tables,
-    wanted: Tables,
-) -> io::Result<Tables> {
-    let done = made(plain(number, n), b"-", t);
-    let answer = done.answer;
-    let left = done.tables;
-    field(rt, name, answer.refusal)?;
-    held(rt, n, answer.refusal, 0, wanted, left)?;
-    Ok(left)
-}
-
-// Where it is accepted, over tables of entries 0, but for the passing times.
-pub fn empty_hall(rt: &impl Print, name: &str, n: u64, t: Tables) -> io::Result<Tables> {
-    let passing = t.passing;
-    let mut wanted = filled(0, 0);
-    wanted.passing = passing;
-    said(rt, name, EMPTY_HALL, n, t, wanted)
-}
-
-pub fn work_out(rt: &impl Print, name: &str, n: u64, t: Tables) -> io::Result<Tables> {
-    said(rt, name, WORK_OUT, n, t, t)
-}
-
-// Where it is accepted, it leaves the lister's tables by the new scale.
-pub fn move_over(rt: &impl Print, name: &str, n: u64, t: Tables) -> io::Result<Tables> {
-    said(rt, name, MOVE_OVER, n, t, t)
-}
-
-// The lister takes the costs that were read; whether they are the right ones is for `same` to say.
-pub fn image_read(
-    rt: &impl Print,
-    name: &str,
-    n: u64,
-    image: &[u8],
-    t: Tables,
-) -> io::Result<Tables> {
-    let done = made(plain(IMAGE_READ, n), image, t);
-    let answer = done.answer;
-    let left = done.tables;
-    field(rt, name, answer.refusal)?;
-    held(rt, n, answer.refusal, 0, left, left)?;
-    Ok(left)
-}
-
-fn edited(rt: &impl Print, name: &str, call: Call, t: Tables) -> io::Result<Tables> {
-    let done = made(call, b"-", t);
-    let answer = done.answer;
-    let left = done.tables;
-    let wanted = link(call.n, call.u, call.v, call.cost, t);
-    field(rt, name, answer.refusal)?;
-    field(rt, ", touched ", answer.touched)?;
-    field(rt, ", rows ", answer.rows)?;
-    field(rt, ", cost before ", answer.before)?;
-    let unlisted = listed::unlisted_answer(call, t, wanted, answer);
-    held(rt, call.n, answer.refusal, unlisted, wanted, left)?;
-    Ok(left)
-}
-
-// The edit of that number. A delete's cost is 0.
-pub fn edit(
-    rt: &impl Print,
-    name: &str,
-    number: u64,
-    n: u64,
-    u: u64,
-    v: u64,
-    cost: u64,
-    t: Tables,
-) -> io::Result<Tables> {
-    edited(
-        rt,
-        name,
-        Call {
-            number,
-            n,
-            u,
-            v,
-            cost,
-        },
-        t,
-    )
-}
-
-// Holds an accepted list against the lister.
-fn held_list(
-    rt: &impl Print,
-    n: u64,
-    list: List,
-    answer: Answer,
-    t: Tables,
-    left: Tables,
-) -> io::Result<()> {
-    let passed = listed::after(n, list, list.length, t);
-    let unlisted = listed::unlisted_set(passed.touched, answer);
-    let wanted = passed.tables;
-    held(rt, n, 0, unlisted, wanted, left)
-}
-
-// A list of edits.
-pub fn list(rt: &impl Print, name: &str, n: u64, list: List, t: Tables) -> io::Result<Tables> {
-    let mut none = [0u8; 1];
-    let done = make(plain(EDIT_LIST, n), list, n, 0, b"-", &mut none, t);
-    let answer = done.answer;
-    let left = done.tables;
-    field(rt, name, answer.refusal)?;
-    field(rt, ", place ", answer.place)?;
-    field(rt, ", touched ", answer.touched)?;
-    field(rt, ", rows ", answer.rows)?;
-    if answer.refusal == 0 {
-        held_list(rt, n, list, answer, t, left)?;
+    // Makes a call that has neither.
+    fn made(&self, act: Act) -> (Answer, Hall) {
+        self.asked(act, &[], &mut [])
     }
-    Ok(left)
-}
 
-pub fn audit(rt: &impl Print, n: u64, t: Tables) -> io::Result<()> {
-    let answer = made(plain(AUDIT, n), b"-", t).answer;
-    field(rt, ", audit ", answer.refusal)
-}
+    // A call that brings no link and is to leave the costs `wanted`.
+    fn said(&self, rt: &impl Print, name: &str, act: Act, wanted: &Hall) -> io::Result<Hall> {
+        let (answer, left) = self.made(act);
+        print!(rt; "{name}{}", answer.number())?;
+        held(rt, answer.refusal, 0, wanted, &left)?;
+        Ok(left)
+    }
 
-pub fn image_write(
-    rt: &impl Print,
-    name: &str,
-    n: u64,
-    t: Tables,
-    buffer: &mut [u8],
-) -> io::Result<()> {
-    let answer = make(plain(IMAGE_WRITE, n), no_edits(), n, 0, b"-", buffer, t).answer;
-    field(rt, name, answer.refusal)?;
-    field(rt, ", length ", answer.length)
+    // Where it is accepted, over tables of entries 0, but for the passing times.
+    pub fn empty_hall(&self, rt: &impl Print, name: &str) -> io::Result<Hall> {
+        let mut wanted = Hall::empty(self.n);
+        wanted.tables.passing = self.tables.passing;
+        self.said(rt, name, Act::EmptyHall, &wanted)
+    }
+
+    pub fn work_out(&self, rt: &impl Print, name: &str) -> io::Result<Hall> {
+        self.said(rt, name, Act::WorkOut, self)
+    }
+
+    // Where it is accepted, it leaves the lister's tables by the new scale.
+    pub fn move_over(&self, rt: &impl Print, name: &str) -> io::Result<Hall> {
+        self.said(rt, name, Act::MoveOver, self)
+    }
+
+    // The lister takes the costs that were read; whether they are the right ones is for `same` to say.
+    pub fn image_read(&self, rt: &impl Print, name: &str, image: &[u8]) -> io::Result<Hall> {
+        let (answer, left) = self.asked(Act::ImageRead, image, &mut []);
+        print!(rt; "{name}{}", answer.number())?;
+        held(rt, answer.refusal, 0, &left, &left)?;
+        Ok(left)
+    }
+
+    pub fn edit(&self, rt: &impl Print, name: &str, edit: Edit) -> io::Result<Hall> {
+        let (answer, left) = self.made(Act::Edit(edit));
+        let wanted = self.with_link(edit.u, edit.v, edit.cost);
+        print!(rt; "{name}{}, touched {}", answer.number(), answer.touched)?;
+        print!(rt; ", rows {}, cost before {}", answer.rows, answer.before)?;
+        let unlisted = listed::unlisted_answer(edit, self, &wanted, &answer);
+        held(rt, answer.refusal, unlisted, &wanted, &left)?;
+        Ok(left)
+    }
+
+    // A list of edits.
+    pub fn list(&self, rt: &impl Print, name: &str, list: List) -> io::Result<Hall> {
+        let (answer, left) = self.made(Act::EditList(list));
+        print!(rt; "{name}{}, place {}", answer.number(), answer.place)?;
+        print!(rt; ", touched {}, rows {}", answer.touched, answer.rows)?;
+        if answer.refusal.is_none() {
+            let passed = listed::after(&list, self);
+            let unlisted = listed::unlisted_set(passed.touched, &answer);
+            held(rt, None, unlisted, &passed.hall, &left)?;
+        }
+        Ok(left)
+    }
+
+    pub fn audit(&self, rt: &impl Print) -> io::Result<()> {
+        let (answer, _) = self.made(Act::Audit);
+        print!(rt; ", audit {}", answer.number())
+    }
+
+    pub fn image_write(&self, rt: &impl Print, name: &str, buffer: &mut [u8]) -> io::Result<()> {
+        let (answer, _) = self.asked(Act::ImageWrite, &[], buffer);
+        print!(rt; "{name}{}, length {}", answer.number(), answer.length)
+    }
+
+    // Whether its tables are those of another hall.
+    pub fn same(&self, rt: &impl Print, other: &Hall) -> io::Result<()> {
+        let differ = self.tables.unlike(&other.tables);
+        count(rt, ", same tables", ", entries that differ ", differ)
+    }
+
+    // A line's end that says whether a call left these tables, and what an audit says of them.
+    pub fn is_left(&self, rt: &impl Print, wanted: &Hall) -> io::Result<()> {
+        self.same(rt, wanted)?;
+        self.audit(rt)?;
+        println!(rt)
+    }
+
+    // The same, the audit first.
+    pub fn is_read(&self, rt: &impl Print, wanted: &Hall) -> io::Result<()> {
+        self.audit(rt)?;
+        self.same(rt, wanted)?;
+        println!(rt)
+    }
+
+    // An edit; says whether it left these tables.
+    pub fn edited(
+        &self,
+        rt: &impl Print,
+        name: &str,
+        edit: Edit,
+        wanted: &Hall,
+    ) -> io::Result<Hall> {
+        let left = self.edit(rt, name, edit)?;
+        left.is_left(rt, wanted)?;
+        Ok(left)
+    }
+
+    // The same of a list.
+    pub fn listed(
+        &self,
+        rt: &impl Print,
+        name: &str,
+        list: List,
+        wanted: &Hall,
+    ) -> io::Result<Hall> {
+        let left = self.list(rt, name, list)?;
+        left.is_left(rt, wanted)?;
+        Ok(left)
+    }
+
+    // The same of a moving call.
+    pub fn moved(&self, rt: &impl Print, name: &str, wanted: &Hall) -> io::Result<Hall> {
+        let left = self.move_over(rt, name)?;
+        left.is_left(rt, wanted)?;
+        Ok(left)
+    }
+
+    // Works its cost table out and audits what that left.
+    pub fn worked(&self, rt: &impl Print) -> io::Result<Hall> {
+        let left = self.work_out(rt, "work out ")?;
+        left.audit(rt)?;
+        println!(rt)?;
+        Ok(left)
+    }
+
+    // The time and the ways from stop 0 to the last stop.
+    pub fn pair(&self, rt: &impl Print, last: usize) -> io::Result<()> {
+        let time = at(&self.tables.time, last);
+        let ways = at(&self.tables.ways, last);
+        println!(rt; "pair 0 {last}: time {time}, ways {ways}")
+    }
+
+    // The least and the greatest score of the stops from 1 up to `past`, and those of the two ends.
+    pub fn middle(&self, rt: &impl Print, past: usize, last: usize) -> io::Result<()> {
+        let scores = self.middle_scores(past);
+        let least = scores.iter().copied().min().unwrap_or(0);
+        let greatest = scores.iter().copied().max().unwrap_or(0);
+        let first = at(&self.tables.score, 0);
+        let end = at(&self.tables.score, last);
+        println!(rt; "middle stops {least} to {greatest}, ends {first} {end}")
+    }
+
+    pub fn stop(&self, rt: &impl Print, v: usize) -> io::Result<()> {
+        let score = at(&self.tables.score, v);
+        println!(rt; "stop {v} scores {score}")
+    }
 }
 
 pub fn image_check(rt: &impl Print, name: &str, image: &[u8], n: u64) -> io::Result<()> {
-    field(rt, name, check(image, n).refusal)
-}
-
-// Whether six tables are six others.
-pub fn same(rt: &impl Print, t: Tables, o: Tables) -> io::Result<()> {
-    let count = differing(t, o);
-    if count == 0 {
-        say(rt, ", same tables")?;
-    } else {
-        field(rt, ", entries that differ ", count)?;
-    }
-    Ok(())
-}
-
-// The time and the ways from stop 0 to the last stop.
-pub fn pair(rt: &impl Print, last: usize, t: Tables) -> io::Result<()> {
-    field(rt, "pair 0 ", last as u64)?;
-    field(rt, ": time ", reading::time(last, t))?;
-    field(rt, ", ways ", reading::ways(last, t))?;
-    end(rt)
-}
-
-// The least and the greatest score of the stops from 1 up to `past`, and those of the two ends.
-pub fn middle(rt: &impl Print, past: usize, last: usize, t: Tables) -> io::Result<()> {
-    field(rt, "middle stops ", reading::least(1, past, t))?;
-    field(rt, " to ", reading::greatest(1, past, t))?;
-    field(rt, ", ends ", reading::score(0, t))?;
-    field(rt, " ", reading::score(last, t))?;
-    end(rt)
-}
-
-pub fn stop(rt: &impl Print, v: usize, t: Tables) -> io::Result<()> {
-    field(rt, "stop ", v as u64)?;
-    field(rt, " scores ", reading::score(v, t))?;
-    end(rt)
-}
-
-// Works a cost table out and audits what that left.
-pub fn worked(rt: &impl Print, n: u64, t: Tables) -> io::Result<Tables> {
-    let left = work_out(rt, "work out ", n, t)?;
-    audit(rt, n, left)?;
-    end(rt)?;
-    Ok(left)
+    print!(rt; "{name}{}", check(image, n).number())
 }
 
 // Inserts: how many were accepted, how much of what each answered and left is not the lister's, and
-// the tables that the last one left.
+// the hall that the last one left.
 #[derive(Clone, Copy)]
 pub struct Inserts {
-    pub accepted: u64,
-    pub unlisted: u64,
-    pub tables: Tables,
+    accepted: u64,
+    unlisted: u64,
+    pub hall: Hall,
 }
 
-pub fn no_inserts(tables: Tables) -> Inserts {
-    Inserts {
-        accepted: 0,
-        unlisted: 0,
-        tables,
+impl Inserts {
+    pub fn none(hall: Hall) -> Inserts {
+        Inserts {
+            accepted: 0,
+            unlisted: 0,
+            hall,
+        }
     }
-}
 
-fn one(refusal: u64) -> u64 {
-    if refusal == 0 { 1 } else { 0 }
-}
-
-// One insert more.
-pub fn inserted(n: u64, u: u64, v: u64, cost: u64, before: Inserts) -> Inserts {
-    let t = before.tables;
-    let call = Call {
-        number: INSERT,
-        n,
-        u,
-        v,
-        cost,
-    };
-    let done = made(call, b"-", t);
-    let answer = done.answer;
-    let accepted = std::num::wrapping_add_u64(before.accepted, one(answer.refusal));
-    let more = listed::unlisted(call, t, link(n, u, v, cost, t), done);
-    let unlisted = std::num::wrapping_add_u64(before.unlisted, more);
-    let tables = done.tables;
-    Inserts {
-        accepted,
-        unlisted,
-        tables,
+    // One insert more.
+    pub fn with(self, u: u64, v: u64, cost: u64) -> Inserts {
+        let edit = insert(u, v, cost);
+        let (answer, left) = self.hall.made(Act::Edit(edit));
+        let wanted = self.hall.with_link(u, v, cost);
+        let more = listed::unlisted(edit, &self.hall, &wanted, &answer, &left);
+        let accepted = u64::from(answer.refusal.is_none());
+        Inserts {
+            accepted: self.accepted.wrapping_add(accepted),
+            unlisted: self.unlisted.wrapping_add(more),
+            hall: left,
+        }
     }
-}
 
-// A line on inserts that were to lead to the tables t.
-pub fn reached(rt: &impl Print, n: u64, inserts: Inserts, t: Tables) -> io::Result<()> {
-    let left = inserts.tables;
-    field(rt, ", accepted ", inserts.accepted)?;
-    held(rt, n, 0, inserts.unlisted, left, left)?;
-    audit(rt, n, left)?;
-    same(rt, left, t)?;
-    end(rt)
+    // A line on inserts that were to lead to these tables.
+    pub fn reached(&self, rt: &impl Print, wanted: &Hall) -> io::Result<()> {
+        let left = &self.hall;
+        print!(rt; ", accepted {}", self.accepted)?;
+        held(rt, None, self.unlisted, left, left)?;
+        left.is_read(rt, wanted)
+    }
 }

@@ -21,9 +21,6 @@ pub record Masking (n i : ℕ) (p : ℕ → ℕ → Bool) (out : List ℕ) : Typ
   pub masks : (u : ℕ) → u < i → Mask n p u (get_or out u 0)
 
 module _ (n : ℕ) (p : ℕ → ℕ → Bool) where
-  pub masking-starts : {out : List ℕ} → length out ≡ 64 → Masking n 0 p out
-  masking-starts e = record { long = e; masks = λ u l. absurd (omega arith) }
-
   pub masking-goes : (a : ℕ) {i : ℕ} {out : List ℕ} → i < 64 → Masking n i p out → Mask n p i a → Masking n (i + 1) p (set out i a)
   masking-goes a {i} {out} l m h = record {
     long = length-set out i a ∙ m.long;

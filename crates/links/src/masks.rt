@@ -1,22 +1,17 @@
 // The links of a cost table as sets of stops, one for each stop that they leave.
-ghost use Rattle.std.specs.Prelude.{◌≡◌, ◌*◌, ◌≤◌, length};
+ghost use Rattle.std.specs.Prelude.{◌≡◌, ℕ, Bool, ◌+◌, ◌*◌, ◌<◌, ◌≤◌, length};
 ghost use Rattle.links.specs.Promise.{AllLinks, UsefulLinks};
-ghost use Rattle.links.specs.Masks.{Mask, Singles, costly, exact};
+ghost use Rattle.links.specs.Masks.{Answers, Mask, Masks, Singles};
 
-use super::{numbers, sets};
+use super::numbers::select;
+use super::sets;
 
 // The links of every stop: bit t of out[u] where the table has a cost from u to t.
 pub fn all_links(n: usize, cost: &[u32], out: &mut [u64; 64])
     requires { (n ≤ 64) × (length cost.now ≡ n * n) }
     ensures { AllLinks n cost.now out.new }
 {
-    let mut singles = [0u64; 64];
-    each_alone(&mut singles);
-    let mut masks = [0u64; 64];
-    for u in 0..64 {
-        masks[u] = links(n, u, cost, &singles);
-    }
-    *out = masks;
+    *out = links_where(n, |at| 0 < cost[at]);
 }
 
 // The useful links of every stop: those whose cost is the time between their ends.
@@ -24,54 +19,44 @@ pub fn useful_links(n: usize, cost: &[u32], time: &[u32], out: &mut [u64; 64])
     requires { (n ≤ 64) × (length cost.now ≡ n * n) × (length time.now ≡ n * n) }
     ensures { UsefulLinks n cost.now time.now out.new }
 {
-    let mut singles = [0u64; 64];
-    each_alone(&mut singles);
+    *out = links_where(n, |at| (0 < cost[at]) & (cost[at] == time[at]));
+}
+
+// The links of every stop whose places in a table of n stops pass a test.
+fn links_where<F: Fn(usize) -> bool>(n: usize, test: F) -> [u64; 64]
+    requires most { n ≤ 64 }
+    requires callable { (at : ℕ) → at < n * n → F.pre test at }
+    ensures { (p : ℕ → Bool) → Answers (F.post test) n p → Masks n p result }
+{
+    let singles = each_alone();
     let mut masks = [0u64; 64];
-    for u in 0..64 {
-        masks[u] = useful(n, u, cost, time, &singles);
+    for (u, mask) in masks.iter_mut().enumerate() {
+        *mask = stops_where(n, u, &singles, &test);
     }
-    *out = masks;
+    masks
+}
+
+// The links of stop u that pass, none where there is no such stop. The loop goes over stops by number: t is a part of a place, and the
+// stop whose set joins.
+fn stops_where<F: Fn(usize) -> bool>(n: usize, u: usize, singles: &[u64; 64], test: &F) -> u64
+    requires most { (n ≤ 64) × Singles singles.now }
+    requires callable { (at : ℕ) → at < n * n → F.pre test.now at }
+    ensures { (p : ℕ → Bool) → Answers (F.post test.now) n p → Mask n (λ u t. p (u * n + t)) u result }
+{
+    let mut set: u64 = 0;
+    if n <= u {
+        return set;
+    }
+    let base = u * n;
+    for t in 0..n {
+        set |= select((*test)(base + t), singles[t], 0);
+    }
+    set
 }
 
 // The set of each stop alone.
-fn each_alone(singles: &mut [u64; 64])
-    requires { length singles.old ≡ 64 }
-    ensures { Singles singles.new }
+fn each_alone() -> [u64; 64]
+    ensures { Singles result }
 {
-    for t in 0..64 {
-        singles[t] = sets::only(t);
-    }
-}
-
-// The links of stop u, none where there is no such stop.
-fn links(n: usize, u: usize, cost: &[u32], singles: &[u64; 64]) -> u64
-    requires { (n ≤ 64) × (length cost.now ≡ n * n) × Singles singles.now }
-    ensures { Mask n (costly n cost.now) u result }
-{
-    let mut set: u64 = 0;
-    if n <= u {
-        return set;
-    }
-    let base = u * n;
-    for t in 0..n {
-        set |= numbers::select_u64(0 < cost[base + t], singles[t], 0);
-    }
-    set
-}
-
-// The useful links of stop u, none where there is no such stop.
-fn useful(n: usize, u: usize, cost: &[u32], time: &[u32], singles: &[u64; 64]) -> u64
-    requires { (n ≤ 64) × (length cost.now ≡ n * n) × (length time.now ≡ n * n) × Singles singles.now }
-    ensures { Mask n (exact n cost.now time.now) u result }
-{
-    let mut set: u64 = 0;
-    if n <= u {
-        return set;
-    }
-    let base = u * n;
-    for t in 0..n {
-        let c = cost[base + t];
-        set |= numbers::select_u64((0 < c) & (c == time[base + t]), singles[t], 0);
-    }
-    set
+    std::array::from_fn(sets::only)
 }

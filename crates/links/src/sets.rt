@@ -1,22 +1,27 @@
 // Sets of stops in words.
-ghost use Rattle.std.specs.Prelude.{◌≡◌, ◌-◌, ◌^◌, ◌<◌};
-ghost use Rattle.std.specs.Int.Bits.{bit_and};
-ghost use Rattle.routes.specs.Sets.{Popped};
+ghost use Rattle.std.specs.Prelude.{◌≡◌, ◌^◌, ◌<◌};
+ghost use Rattle.std.specs.Iterator.{at_most};
+ghost use Rattle.links.specs.Stops.{Takes};
 
-// The lowest stop of a set that has one.
-pub fn lowest(set: u64) -> usize
-    requires { 0 < set }
-    ensures { Popped set result (bit_and set (set - 1)) }
-{
-    u64::trailing_zeros(set) as usize
-}
+// The stops of a set, from the lowest on: bit t of the word stands for the stop t.
+#[derive(Clone, Copy)]
+pub struct Stops(pub u64);
 
-// The set without its lowest stop.
-pub fn rest(set: u64) -> u64
-    requires { 0 < set }
-    ensures { result ≡ bit_and set (set - 1) }
-{
-    set & (set - 1)
+impl Iterator for Stops {
+    type Item = usize;
+
+    ghost next_gives = { λ s r t. Takes s.0 r t.0 };
+
+    ghost remaining = { λ s. at_most s.0 };
+
+    fn next(&mut self) -> Option<usize> {
+        if self.0 == 0 {
+            return None;
+        }
+        let t = self.0.trailing_zeros() as usize;
+        self.0 &= self.0 - 1;
+        Some(t)
+    }
 }
 
 // The set of one stop.
@@ -24,5 +29,5 @@ pub fn only(t: usize) -> u64
     requires { t < 64 }
     ensures { result ≡ 2 ^ t }
 {
-    1u64 << (t as u64)
+    1 << t
 }

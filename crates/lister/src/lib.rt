@@ -8,6 +8,7 @@
 #![tactic(auto)]
 
 mod fill;
+mod hall;
 mod quickest;
 mod route;
 mod tally;
@@ -16,22 +17,14 @@ mod walk;
 ghost use Rattle.std.specs.Prelude.{◌≡◌, ◌*◌, ◌^◌, ◌<◌, ◌≤◌, min, length, drop, bit_or, count_ones};
 ghost use Rattle.lister.specs.Wrote.{Wrote};
 
-use fill::{fill_row, fill_scores};
-use quickest::{keep, put};
-use route::STOPS;
-use tally::{ROOM, time_to, using_to};
-use walk::list;
-
-// The number of stops that are listed.
-fn few(n: u64) -> usize
-    ensures { (result ≡ min n 64) × (result ≤ 64) }
-{
-    if n < STOPS as u64 { n as usize } else { STOPS }
-}
+use fill::{Counting, fill_row, fill_scores};
+use hall::{Hall, Stop};
+use quickest::put_routes;
+use tally::Tally;
 
 // Fills the times, the ways, the shares and the scores of a cost table and the stops' passing times; a whole share counts the scale.
 // A pair with more ways than the limit has the entry limit + 1, and adds nothing to shares. What a lent table has behind the hall's
-// entries stays.
+// entries stays. The lister has no type of what it is held against, so its tables come one by one.
 pub fn tables(
     cost: &[u32],
     passing: &[u32],
@@ -48,63 +41,21 @@ pub fn tables(
     ensures share_unchanged { drop (min n 64 * min n 64) share.new ≡ drop (min n 64 * min n 64) share.old }
     ensures score_unchanged { drop (min n 64) score.new ≡ drop (min n 64) score.old }
 {
-    let n = few(n);
-    let mut tally = [0u64; ROOM];
-    for s in 0..n {
-        list(cost, passing, n, s, 0, 0, &mut tally);
-        fill_row(limit, scale, n, s, &tally, time, ways, share);
+    let hall = Hall::new(cost, passing, n);
+    let counting = Counting { limit, scale };
+    let mut tally = Tally::new(None);
+    // Over stops, by number.
+    for s in 0..hall.n {
+        tally.list(&hall, Stop::new(s));
+        fill_row(counting, &hall, s, &tally, time, ways, share);
     }
-    fill_scores(n, share, score);
+    fill_scores(&hall, share, score);
 }
 
-// Whether a quickest route from s goes from u on to v.
-fn touches(
-    cost: &[u32],
-    passing: &[u32],
-    n: usize,
-    s: usize,
-    u: usize,
-    v: usize,
-    tally: &mut [u64; ROOM],
-) -> bool
-    requires n_bound { n ≤ 64 }
-    requires s_lt_n { s < n }
-{
-    list(cost, passing, n, s, u, v, tally);
-    for t in 0..n {
-        if using_to(tally, t) > 0 {
-            return true;
-        }
-    }
-    false
-}
-
-// Whether one does in the hall before or in the hall after.
-fn touches_either(
-    before: &[u32],
-    after: &[u32],
-    passing: &[u32],
-    n: usize,
-    s: usize,
-    u: usize,
-    v: usize,
-    tally: &mut [u64; ROOM],
-) -> bool
-    requires n_bound { n ≤ 64 }
-    requires s_lt_n { s < n }
-{
-    if touches(before, passing, n, s, u, v, tally) {
-        return true;
-    }
-    touches(after, passing, n, s, u, v, tally)
-}
-
-// The set with s in it: bit s is 1.
-fn with(set: u64, s: usize) -> u64
-    requires { s < 64 }
-    ensures { result ≡ bit_or set (2 ^ s) }
-{
-    set | 1 << s
+// Whether a quickest route from s uses the link of the tally.
+fn touches(hall: &Hall<'_>, s: Stop, tally: &mut Tally) -> bool {
+    tally.list(hall, s);
+    tally.parts(hall).iter().any(|part| part.using > 0)
 }
 
 // The set of the sources from which a quickest route, before or after, uses the link from u to v. Only
@@ -112,20 +63,22 @@ fn with(set: u64, s: usize) -> u64
 pub fn touched(before: &[u32], after: &[u32], passing: &[u32], n: u64, u: u64, v: u64) -> u64
     ensures { result < 2 ^ min n 64 }
 {
-    let n = few(n);
-    let mut tally = [0u64; ROOM];
+    let before = Hall::new(before, passing, n);
+    let after = Hall::new(after, passing, n);
+    let mut tally = Tally::new(before.link(u, v));
     let mut set = 0;
-    for s in 0..n {
-        if touches_either(
-            before, after, passing, n, s, u as usize, v as usize, &mut tally,
-        ) {
-            set = with(set, s);
+    // Over stops, by number: it is the bit.
+    for number in 0..before.n {
+        let s = Stop::new(number);
+        if touches(&before, s, &mut tally) || touches(&after, s, &mut tally) {
+            set |= 1 << number;
         }
     }
     set
 }
 
-// How many bits of a set are 1.
+// How many bits of a set are 1. They are counted by division, and not by the `count_ones` of the library that the lister is held
+// against.
 pub fn number(set: u64) -> u64
     ensures { result ≡ count_ones set }
 {
@@ -138,27 +91,11 @@ pub fn number(set: u64) -> u64
     number
 }
 
-// Writes those of the routes from s that lead to t in the least time, behind the byte of their number.
-fn put_routes(
-    cost: &[u32],
-    passing: &[u32],
-    n: usize,
-    s: usize,
-    t: usize,
-    buffer: &mut [u8],
-    from: usize,
-) -> usize
-    requires n_bound { n ≤ 64 }
-    requires s_lt_n { (s < n) × (t < n) }
-    requires from_nonzero { (0 < from) × (from ≤ length buffer.old) }
-    ensures { Wrote from result buffer.old buffer.new }
-{
-    let mut tally = [0u64; ROOM];
-    list(cost, passing, n, s, 0, 0, &mut tally);
-    let least = time_to(&tally, t);
-    let mut route = [0u8; STOPS];
-    route[0] = s as u8;
-    keep(cost, passing, n, t, least, &mut route, 1, buffer, from)
+// The least time of a route from s to t.
+fn least(hall: &Hall<'_>, s: Stop, t: Stop) -> u64 {
+    let mut tally = Tally::new(None);
+    tally.list(hall, s);
+    tally.time(t)
 }
 
 // Writes the quickest routes from s to t: one byte with their number, and then each as one byte with the number of its stops and a
@@ -167,16 +104,13 @@ fn put_routes(
 pub fn routes(cost: &[u32], passing: &[u32], n: u64, s: u64, t: u64, buffer: &mut [u8]) -> usize
     ensures { Wrote 0 result buffer.old buffer.new }
 {
-    let n = few(n);
-    let first = put(buffer, 0, 0);
-    if first == 0 {
-        return first;
-    }
-    if n as u64 <= s {
-        return first;
-    }
-    if n as u64 <= t {
-        return first;
-    }
-    put_routes(cost, passing, n, s as usize, t as usize, buffer, first)
+    let hall = Hall::new(cost, passing, n);
+    let Some(number) = buffer.first_mut() else {
+        return 0;
+    };
+    *number = 0;
+    let (Some(s), Some(t)) = (hall.stop(s), hall.stop(t)) else {
+        return 1;
+    };
+    put_routes(&hall, s, t, least(&hall, s, t), buffer)
 }

@@ -1,103 +1,82 @@
 // The quickest routes to a stop as bytes: their number, and behind it each route, the number of its stops in front of them. What
-// the buffer has no room for is left out.
-ghost use Rattle.std.specs.Prelude.{◌≡◌, ◌<◌, ◌≤◌, length, drop};
-ghost use Rattle.lister.specs.Wrote.{Wrote};
+// the buffer has no room for is left out. They come in the order of the walk, and none is the front of another, since the stop is
+// their last one and on none of them twice.
+ghost use Rattle.std.specs.Prelude.{◌≡◌, ◌<◌, ◌≤◌, length};
+ghost use Rattle.lister.specs.Wrote.{Wrote, WroteOn};
 
-use crate::route::{STOPS, goes_on, stop, time};
+use crate::hall::{Hall, Stop};
+use crate::route::Route;
+use crate::walk::{Visit, walk};
 
-// Writes a byte, and says where the next one goes.
-pub fn put(buffer: &mut [u8], at: usize, x: u8) -> usize
-    requires { at ≤ length buffer.old }
-    ensures { Wrote at result buffer.old buffer.new }
-{
-    if at < buffer.len() {
-        buffer[at] = x;
-        return at + 1;
-    }
-    at
-}
-
-fn one_more(x: u8) -> u8 {
-    if x < 255 { x + 1 } else { x }
-}
-
-// Counts a route in the first byte.
-fn count(buffer: &mut [u8])
-    ensures { drop 1 buffer.new ≡ drop 1 buffer.old }
-{
-    if 0 < buffer.len() {
-        buffer[0] = one_more(buffer[0]);
-    }
-}
-
-// Counts a route of k stops, and writes it.
-fn put_route(route: &[u8; STOPS], k: usize, buffer: &mut [u8], from: usize) -> usize
-    requires k_bound { k ≤ 64 }
-    requires from_nonzero { (0 < from) × (from ≤ length buffer.old) }
-    ensures { Wrote from result buffer.old buffer.new }
-{
-    count(buffer);
-    let mut at = put(buffer, from, k as u8);
-    for i in 0..k {
-        at = put(buffer, at, route[i]);
-    }
-    at
-}
-
-// The same if the route ends at t and takes the least time.
-fn put_quickest(
-    cost: &[u32],
-    passing: &[u32],
-    n: usize,
-    t: usize,
+// A list in its buffer: where its next byte goes, and the stop and the time of its routes.
+#[derive(Drop)]
+pub struct List<'a> {
+    buffer: &'a mut [u8],
+    at: usize,
+    t: Stop,
     least: u64,
-    route: &[u8; STOPS],
-    k: usize,
-    buffer: &mut [u8],
-    from: usize,
-) -> usize
-    requires n_bound { n ≤ 64 }
-    requires k_nonzero { (0 < k) × (k ≤ 64) }
-    requires from_nonzero { (0 < from) × (from ≤ length buffer.old) }
-    ensures { Wrote from result buffer.old buffer.new }
-{
-    if stop(route, k - 1) != t {
-        return from;
-    }
-    if time(cost, passing, n, route, k) != least {
-        return from;
-    }
-    put_route(route, k, buffer, from)
+    ghost some: { 0 < at },
+    ghost within: { at ≤ length buffer.now },
 }
 
-// Writes such routes among the one in hand and, depth first, every longer one that begins with it. The next stops rise, so that
-// the routes come in order of their stops, compared from the front: where two part, the one with the smaller stop comes first,
-// and none is the front of another, since t is their last stop and on none of them twice.
-pub fn keep(
-    cost: &[u32],
-    passing: &[u32],
-    n: usize,
-    t: usize,
-    least: u64,
-    route: &mut [u8; STOPS],
-    k: usize,
-    buffer: &mut [u8],
-    from: usize,
-) -> usize
-    requires n_bound { n ≤ 64 }
-    requires k_nonzero { (0 < k) × (k ≤ 64) }
-    requires from_nonzero { (0 < from) × (from ≤ length buffer.old) }
-    ensures { Wrote from result buffer.old buffer.new }
-{
-    let mut at = put_quickest(cost, passing, n, t, least, route, k, buffer, from);
-    if k == STOPS {
-        return at;
-    }
-    for next in 0..n {
-        if goes_on(cost, n, route, k, next) {
-            route[k] = next as u8;
-            at = keep(cost, passing, n, t, least, route, k + 1, buffer, at);
+impl List<'_> {
+    // Writes a byte.
+    fn put(&mut self, x: u8)
+        ensures { WroteOn self.old.at self.new.at self.old.buffer self.new.buffer }
+    {
+        if self.at < self.buffer.len() {
+            self.buffer[self.at] = x;
+            self.at += 1;
         }
     }
-    at
+
+    // Counts a route in the first byte.
+    fn count(&mut self)
+        ensures { WroteOn self.old.at self.new.at self.old.buffer self.new.buffer }
+    {
+        self.buffer[0] = self.buffer[0].saturating_add(1);
+    }
+
+    // Counts a route, and writes it.
+    fn put_route(&mut self, route: &Route)
+        ensures { WroteOn self.old.at self.new.at self.old.buffer self.new.buffer }
+    {
+        self.count();
+        self.put(route.stops().len() as u8);
+        for v in route.stops() {
+            self.put(v.number() as u8);
+        }
+    }
+}
+
+// The route is written if it ends at the stop and takes the time.
+impl Visit for List<'_> {
+    ghost use Rattle.lister.specs.Wrote.{WroteOn, stays_on, goes_on};
+
+    ghost Becomes = { λ l m. WroteOn l.at m.at l.buffer m.buffer };
+
+    ghost stays = { λ l. stays_on l.at l.buffer l.within };
+
+    ghost goes_on = { λ l m n. goes_on };
+
+    fn visit(&mut self, hall: &Hall<'_>, route: &Route) {
+        if route.last() == self.t && route.time(hall) == self.least {
+            self.put_route(route);
+        }
+    }
+}
+
+// Writes those of the routes from s that lead to t in this time, behind the byte of their number.
+pub fn put_routes(hall: &Hall<'_>, s: Stop, t: Stop, least: u64, buffer: &mut [u8]) -> usize
+    requires { 0 < length buffer.old }
+    ensures { Wrote 1 result buffer.old buffer.new }
+{
+    let mut list = List {
+        buffer,
+        at: 1,
+        t,
+        least,
+    };
+    walk(hall, &mut Route::new(s), &mut list);
+    list.at
 }

@@ -1,120 +1,96 @@
-// What is known of the quickest routes from one stop among those met so far: for each stop t where
-// they end a part of the tally, which holds their time, their number, how many of them use one given
-// link, and how many of them stop at each stop.
-ghost use Rattle.std.specs.Prelude.{◌<◌, ◌≤◌};
+// What is known of the quickest routes from one stop among those met so far.
+ghost use Rattle.std.specs.Prelude.{◌≡◌, length};
 
-use crate::route::{STOPS, stop};
+use crate::hall::{Hall, Link, STOPS, Stop};
+use crate::route::Route;
+use crate::walk::{Visit, walk};
 
-// The room of a part, and of 64 of them.
-const PART: usize = 67;
-
-pub const ROOM: usize = 4288;
-
-// What the places of a part hold; the number of those that stop at v is at THROUGH + v.
-const TIME: usize = 0;
-
-const WAYS: usize = 1;
-
-const USING: usize = 2;
-
-const THROUGH: usize = 3;
-
-// The time where there is no route.
+// The time where there is no route, as a table has it: no route that takes longer counts.
 const MARK: u64 = 4294967295;
 
-// A count is cut off here, so that a scale of 32 bits times a count fits 64.
-const MOST: u64 = 4294967295;
-
-fn place(t: usize, i: usize) -> usize
-    requires t_bound { t ≤ 255 }
-    requires i_bound { i ≤ 258 }
-{
-    t * PART + i
+// The quickest routes to one stop: their time, their number, how many of them use one given link, and how many of them stop at each
+// stop. A count is cut off at the most that 32 bits hold.
+#[derive(Clone, Copy)]
+pub struct Part {
+    pub time: u64,
+    pub ways: u32,
+    pub using: u32,
+    pub through: [u32; STOPS],
 }
 
-fn at(tally: &[u64; ROOM], i: usize) -> u64 {
-    if i < ROOM { tally[i] } else { 0 }
-}
+impl Part {
+    // Routes of this time, of which none is counted yet.
+    fn new(time: u64) -> Part {
+        Part {
+            time,
+            ways: 0,
+            using: 0,
+            through: [0; STOPS],
+        }
+    }
 
-fn put(tally: &mut [u64; ROOM], i: usize, x: u64) {
-    if i < ROOM {
-        tally[i] = x;
+    // Counts a route that takes their time.
+    fn count(&mut self, route: &Route, uses: bool) {
+        self.ways = self.ways.saturating_add(1);
+        self.using = self.using.saturating_add(u32::from(uses));
+        for v in route.stops() {
+            let through = &mut self.through[v.number()];
+            *through = through.saturating_add(1);
+        }
     }
 }
 
-fn count(tally: &[u64; ROOM], i: usize) -> u64
-    ensures { result ≤ 4294967295 }
-{
-    let x = at(tally, i);
-    if x < MOST { x } else { MOST }
+// A part for each stop, in fixed memory, and the link whose routes are counted apart, if there is one.
+#[derive(Drop)]
+pub struct Tally {
+    parts: [Part; STOPS],
+    link: Option<Link>,
 }
 
-fn add_one(tally: &mut [u64; ROOM], i: usize) {
-    let x = count(tally, i);
-    put(tally, i, x + 1);
-}
+impl Tally {
+    pub fn new(link: Option<Link>) -> Tally {
+        Tally {
+            parts: [Part::new(MARK); STOPS],
+            link,
+        }
+    }
 
-// The time of the quickest routes to t, the mark where there is none.
-pub fn time_to(tally: &[u64; ROOM], t: usize) -> u64
-    requires { t ≤ 255 }
-{
-    at(tally, place(t, TIME))
-}
+    // The parts of the hall's stops.
+    pub fn parts(&self, hall: &Hall<'_>) -> &[Part]
+        ensures { length result.now ≡ hall.now.n }
+    {
+        &self.parts[..hall.n]
+    }
 
-// Their number.
-pub fn ways_to(tally: &[u64; ROOM], t: usize) -> u64
-    requires { t ≤ 255 }
-    ensures { result ≤ 4294967295 }
-{
-    count(tally, place(t, WAYS))
-}
+    // The time of the quickest routes to t.
+    pub fn time(&self, t: Stop) -> u64 {
+        self.parts[t.number()].time
+    }
 
-// How many of them use the given link.
-pub fn using_to(tally: &[u64; ROOM], t: usize) -> u64
-    requires { t ≤ 255 }
-{
-    count(tally, place(t, USING))
-}
-
-// How many of them stop at v.
-pub fn through_to(tally: &[u64; ROOM], t: usize, v: usize) -> u64
-    requires t_bound { t ≤ 255 }
-    requires v_bound { v ≤ 255 }
-    ensures { result ≤ 4294967295 }
-{
-    count(tally, place(t, THROUGH + v))
-}
-
-// Starts the part of t anew: routes of this time, of which none is counted yet.
-pub fn start(tally: &mut [u64; ROOM], n: usize, t: usize, time: u64)
-    requires n_bound { n ≤ 64 }
-    requires t_bound { t ≤ 255 }
-{
-    put(tally, place(t, TIME), time);
-    for i in 1..THROUGH + n {
-        put(tally, place(t, i), 0);
+    // Tallies every route from s.
+    pub fn list(&mut self, hall: &Hall<'_>, s: Stop) {
+        self.parts[..hall.n].fill(Part::new(MARK));
+        walk(hall, &mut Route::new(s), self);
     }
 }
 
-// Starts the parts of all stops anew, with no routes.
-pub fn clear(tally: &mut [u64; ROOM], n: usize)
-    requires { n ≤ 64 }
-{
-    for t in 0..n {
-        start(tally, n, t, MARK);
-    }
-}
+// A route is held against the quickest to its last stop so far: a quicker one starts their part anew, and one as quick is counted.
+impl Visit for Tally {
+    ghost Becomes = { λ _ _. Unit {0} };
 
-// Counts a route to t of k stops that takes the time of the part of t.
-pub fn count_route(tally: &mut [u64; ROOM], t: usize, route: &[u8; STOPS], k: usize, uses: bool)
-    requires t_bound { t ≤ 255 }
-    requires k_bound { k ≤ 64 }
-{
-    add_one(tally, place(t, WAYS));
-    if uses {
-        add_one(tally, place(t, USING));
-    }
-    for i in 0..k {
-        add_one(tally, place(t, THROUGH + stop(route, i)));
+    ghost stays = { λ _. tt };
+
+    ghost goes_on = { λ _ _ _ _ _. tt };
+
+    fn visit(&mut self, hall: &Hall<'_>, route: &Route) {
+        let part = &mut self.parts[route.last().number()];
+        let taken = route.time(hall);
+        if taken < part.time {
+            *part = Part::new(taken);
+        }
+        if taken == part.time {
+            let uses = self.link.is_some_and(|link| route.uses(link));
+            part.count(route, uses);
+        }
     }
 }

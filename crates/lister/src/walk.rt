@@ -1,77 +1,40 @@
 // The walk over every route from a stop.
-ghost use Rattle.std.specs.Prelude.{◌<◌, ◌≤◌};
+ghost use Rattle.std.specs.Prelude.{◌≡◌};
 
-use crate::route::{STOPS, goes_on, stop, time, uses};
-use crate::tally::{ROOM, clear, count_route, start, time_to};
+use crate::hall::{Hall, Stop};
+use crate::route::Route;
 
-// Holds a route of k stops against the quickest to its last stop so far: a quicker one starts their
-// part of the tally anew, and one as quick is counted.
-fn note(
-    cost: &[u32],
-    passing: &[u32],
-    n: usize,
-    u: usize,
-    v: usize,
-    route: &[u8; STOPS],
-    k: usize,
-    tally: &mut [u64; ROOM],
-)
-    requires n_bound { n ≤ 64 }
-    requires k_nonzero { (0 < k) × (k ≤ 64) }
-{
-    let t = stop(route, k - 1);
-    let taken = time(cost, passing, n, route, k);
-    let best = time_to(tally, t);
-    if taken < best {
-        start(tally, n, t, taken);
-    }
-    if taken <= best {
-        count_route(tally, t, route, k, uses(route, k, u, v));
-    }
+// What is done at each route of a walk.
+pub trait Visit {
+    // What one visit or several, one behind the other, may make of it.
+    ghost Becomes: { Self → Self → Type 0 };
+
+    fn visit(&mut self, hall: &Hall<'_>, route: &Route)
+        ensures { Becomes self.old self.new };
+
+    ghost stays: { (x : Self) → Becomes x x };
+
+    ghost goes_on: { (x y z : Self) → Becomes x y → Becomes y z → Becomes x z };
 }
 
-// Tallies the route in hand and, depth first, every longer one that begins with it: it goes on over
-// each link to a stop that is not on the route.
-fn walk(
-    cost: &[u32],
-    passing: &[u32],
-    n: usize,
-    u: usize,
-    v: usize,
-    route: &mut [u8; STOPS],
-    k: usize,
-    tally: &mut [u64; ROOM],
-)
-    requires n_bound { n ≤ 64 }
-    requires k_nonzero { (0 < k) × (k ≤ 64) }
+// Visits the route in hand and, depth first, every longer one that begins with it: it goes on over each link to a stop that is not
+// on the route. The next stops rise, so that the routes come in order of their stops, compared from the front: where two part, the
+// one with the smaller stop comes first.
+pub fn walk<V: Visit>(hall: &Hall<'_>, route: &mut Route, visits: &mut V)
+    ensures route { route.new.stops.items ≡ route.old.stops.items }
+    ensures visits { V.Becomes visits.old visits.new }
 {
-    note(cost, passing, n, u, v, route, k, tally);
-    if k == STOPS {
+    visits.visit(hall, route);
+    if !route.has_room() {
         return;
     }
-    for next in 0..n {
-        if goes_on(cost, n, route, k, next) {
-            route[k] = next as u8;
-            walk(cost, passing, n, u, v, route, k + 1, tally);
+    // Over stops, by number, since they rise.
+    for v in 0..hall.n {
+        let v = Stop::new(v);
+        if route.leads_to(hall, v) {
+            route.push(v);
+            walk(hall, route, visits);
+            route.pop();
         }
     }
-}
-
-// Tallies every route from s, with those that go from u on to v.
-pub fn list(
-    cost: &[u32],
-    passing: &[u32],
-    n: usize,
-    s: usize,
-    u: usize,
-    v: usize,
-    tally: &mut [u64; ROOM],
-)
-    requires n_bound { n ≤ 64 }
-    requires s_lt_n { s < n }
-{
-    let mut route = [0u8; STOPS];
-    route[0] = s as u8;
-    clear(tally, n);
-    walk(cost, passing, n, u, v, &mut route, 1, tally);
 }

@@ -4,6 +4,7 @@ use mathlib.Core.Path.{◌≡◌, refl, sym, ◌∙◌, ap, subst⁻¹}
 use mathlib.Core.Bool.{Bool, true, false, cond}
 use lib.ListN.{length, length-replicate}
 use borrow.Author.Tests.{eq-eqb}
+use Rattle.std.specs.Prelude.{Option, Some, None}
 use Rattle.routes.specs.Route.{score}
 use Rattle.book.specs.Hall.{Layout, Tables, most_stops, scale, up_to, filled, sized, no_passing, no_links, most_ways}
 use Rattle.book.specs.Call.{Call, empty_hall, edit, Answer, rule, accepted, refusal, after, answer, Done}
@@ -13,8 +14,6 @@ use Rattle.book.proofs.Sizes.{stops, Lengths, lengths, passing-fits}
 use Rattle.book.proofs.Filled.{right-true}
 use Rattle.book.proofs.Steps.{Held, held_none, refusal-book, held_after, held-right, held-audited, none-brief}
 use Rattle.book.specs.declared.Edit.{Edit}
-use Rattle.words.specs.declared.Line.{Line}
-use Rattle.words.specs.declared.Line.TheVariants.{Read, Unread}
 use Rattle.words.specs.Text.{edit_line, said, next, empty_book}
 use Rattle.listing.specs.Promise.{book_of}
 
@@ -42,12 +41,12 @@ module _ {n : ℕ} {t : Tables} (s : Audited n t) where
   few-stops = (stops n s.inside.size).1
 
   -- a line leaves the tables of the book after it
-  pub next-audited : (l : Line) (t' : Tables) → t' ≡ filled scale most_ways n (next (book_of n t) l).layout → (book_of n t' ≡ next (book_of n t) l) × Audited n t'
+  pub next-audited : (e : Option Edit) (t' : Tables) → t' ≡ filled scale most_ways n (next (book_of n t) e).layout → (book_of n t' ≡ next (book_of n t) e) × Audited n t'
   unfolding next book_after filled
-  next-audited Unread t' e = (ap (book_of n) e, audited-of (book_of n t) t' held e)
-  next-audited (Read x) t' e =
+  next-audited None t' h = (ap (book_of n) h, audited-of (book_of n t) t' held h)
+  next-audited (Some x) t' h =
       let call : Call = record { n = n; ask = edit x } in
-      (ap (book_of n) e, audited-of (book_after call (book_of n t)) t' (held_after call (book_of n t) held) e)
+      (ap (book_of n) h, audited-of (book_after call (book_of n t)) t' (held_after call (book_of n t) held) h)
 
   -- an edit of the tables leaves the tables of the book after it, and answers what the book says
   module _ (x : Edit) {t' : Tables} {a : Answer} (d : Done (record { n = n; ask = edit x }) t t' a) where
@@ -68,7 +67,7 @@ module _ {n : ℕ} {t : Tables} (s : Audited n t) where
         go true = refl
         go false = refl
 
-    pub edit-left : t' ≡ filled scale most_ways n (next book (Read x)).layout
+    pub edit-left : t' ≡ filled scale most_ways n (next book (Some x)).layout
     unfolding next book_after
     edit-left = d.left ∙ ap (after call) own ∙ edit-after
 
@@ -76,7 +75,7 @@ module _ {n : ℕ} {t : Tables} (s : Audited n t) where
     unfolding answer book_answer filled
     edit-answer = d.answered ∙ ap (answer call) own ∙ rw (refusal-book call book held)
 
-    pub edit-said : (i : ℕ) → said i book (Read x) ≡ edit_line i a
+    pub edit-said : (i : ℕ) → said i book (Some x) ≡ edit_line i a
     unfolding said
     edit-said i = ap (edit_line i) (sym edit-answer)
 

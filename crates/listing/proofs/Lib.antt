@@ -1,5 +1,5 @@
 -- Laws of hallscore, and worked examples.
 pub mod Books
+pub mod Examples
 pub mod Running
 pub mod Whole
-pub mod Examples

@@ -1,23 +1,19 @@
 // hallscore's text in and text out.
 #![tactic(auto)]
 
+use book::lent::LentMut;
 use book::limits::Hall;
+use print::Output;
 use words::read;
+use words::read::Lines;
 
 mod run;
 
-ghost use Rattle.std.specs.Prelude.{◌≡◌, true, drop, ◌++◌};
+ghost use Rattle.std.specs.Prelude.{◌≡◌, ◌≤◌, true, length, ◌++◌};
 ghost use Rattle.book.specs.Hall.{most_stops, up_to};
-ghost use Rattle.words.specs.Text.{longest, lines, hall_line, empty_book, report};
-ghost use Rattle.print.specs.Promise.{Printed};
+ghost use Rattle.words.specs.Text.{longest, lines, hall_line, empty_book, report, listing};
+ghost use Rattle.print.specs.Promise.{Prints};
 ghost use Rattle.listing.specs.Promise.{room, Ready, wrote};
-
-// Whether the listing fits the lent output, and its length.
-#[derive(Drop)]
-pub struct Listed {
-    pub fits: bool,
-    pub length: usize,
-}
 
 // The longest text that is read, and room for the listing of any text: specs/Promise.antt says where it comes from.
 pub const LONGEST: usize = 32768;
@@ -31,10 +27,11 @@ pub fn bounds_agree()
 {}
 
 // The listing of a text behind its first line, which asks for a hall of n stops.
-fn hall(n: u64, text: &[u8], first: usize, out: &mut [u8]) -> usize
+fn hall(n: u64, rest: Lines<'_>, out: &mut Output<'_>)
     requires n_value { up_to most_stops n ≡ true }
-    requires ready { Ready text.now first out.old 0 }
-    ensures { Printed (hall_line n ++ report 2 (empty_book n) (lines (drop first text.now))) 0 out.old result out.new }
+    requires ready { Ready (lines rest.text.now) out.old }
+    requires front { out.old.written ≡ 0 }
+    ensures { Prints (hall_line n ++ report 2 (empty_book n) (lines rest.entry.text.now)) out.old out.new }
 {
     let mut cost = [0u32; Hall::CELLS];
     let passing = [0u32; Hall::STOPS];
@@ -44,51 +41,46 @@ fn hall(n: u64, text: &[u8], first: usize, out: &mut [u8]) -> usize
     let mut score = [0u64; Hall::STOPS];
     let k = n as usize;
     let cells = k * k;
-    let at = print::hall_line(n, out, 0);
-    run::start(
-        n,
-        text,
-        first,
-        out,
-        at,
-        &mut cost[..cells],
-        &passing[..k],
-        &mut time[..cells],
-        &mut ways[..cells],
-        &mut share[..cells],
-        &mut score[..k],
-    )
+    let mut tables = LentMut {
+        cost: &mut cost[..cells],
+        passing: &passing[..k],
+        time: &mut time[..cells],
+        ways: &mut ways[..cells],
+        share: &mut share[..cells],
+        score: &mut score[..k],
+    };
+    out.hall_line(n);
+    run::start(n, rest, out, &mut tables);
 }
 
-// The listing of a text, from the front of the output. An output that is too short for some text is left as it is.
-pub fn list(input: &[u8], output: &mut [u8]) -> Listed
+// The listing of a text, in an output that has room for it.
+fn print_listing(input: &[u8], out: &mut Output<'_>)
+    requires room { room ≤ length out.old.out.now }
+    requires front { out.old.written ≡ 0 }
+    ensures { Prints (listing input.now) out.old out.new }
+{
+    if input.len() > LONGEST {
+        out.put(b"too long\n");
+        return;
+    }
+    let mut rest = Lines { text: input };
+    match rest.next().and_then(read::hall_of) {
+        Some(n) if Hall::takes(n) => hall(n, rest, out),
+        _ => out.put(b"no hall\n"),
+    }
+}
+
+// The listing of a text, from the front of the output, and its length. An output that is too short for some text is left as it is.
+pub fn list(input: &[u8], output: &mut [u8]) -> Option<usize>
     ensures { (result, output.new) ≡ wrote input.now output.old }
 {
     if output.len() < ROOM {
-        return Listed {
-            fits: false,
-            length: 0,
-        };
+        return None;
     }
-    if input.len() > LONGEST {
-        let end = print::put(b"too long\n", output, 0);
-        return Listed {
-            fits: true,
-            length: end,
-        };
-    }
-    let e = read::index_of(input, b'\n');
-    let n = read::hall_of(&input[..e]);
-    if !Hall::takes(n) {
-        let end = print::put(b"no hall\n", output, 0);
-        return Listed {
-            fits: true,
-            length: end,
-        };
-    }
-    let end = hall(n, input, e + 1, output);
-    Listed {
-        fits: true,
-        length: end,
-    }
+    let mut out = Output {
+        out: output,
+        written: 0,
+    };
+    print_listing(input, &mut out);
+    Some(out.written)
 }

@@ -1,140 +1,59 @@
 // The lines of a text, one after another, on the tables of a hall.
-ghost use Rattle.std.specs.Prelude.{◌≡◌, ◌+◌, ◌*◌, ◌≤◌, length, get_or, drop};
+ghost use Rattle.std.specs.Prelude.{◌≡◌, ◌+◌, ◌*◌, ◌≤◌, length, get_or};
 ghost use Rattle.routes.specs.Route.{join_to};
 ghost use Rattle.book.specs.Hall.{most_stops, no_passing};
-ghost use Rattle.book.specs.Contract.{these, found, left, Inside, Audited};
+ghost use Rattle.book.specs.Contract.{held, Inside, Audited};
 ghost use Rattle.words.specs.Text.{lines, words, line_of, stop_line, empty_book, report};
-ghost use Rattle.print.specs.Promise.{stop_bytes, Printed};
+ghost use Rattle.print.specs.Promise.{stop_bytes, Prints};
 ghost use Rattle.listing.specs.Promise.{book_of, Room, Stepped, Ready};
 
-use book::Edit;
+use book::lent::LentMut;
 use edits::audited::edit_audited;
 use hall::empty_hall::empty_hall;
-use words::{Line, read};
-
-// An edit, line i of the text.
-fn edit(
-    i: u64,
-    e: Edit,
-    n: u64,
-    out: &mut [u8],
-    at: usize,
-    cost: &mut [u32],
-    passing: &[u32],
-    time: &mut [u32],
-    ways: &mut [u32],
-    share: &mut [u64],
-    score: &mut [u64],
-) -> usize
-    requires audited { Audited n (these cost.old passing.now time.old ways.old share.old score.old) }
-    requires room { Room i at out.old }
-    ensures { Stepped n i (Line.Read e) (found cost.old passing.now time.old ways.old share.old score.old) (left cost.new passing.now time.new ways.new share.new score.new) at out.old result out.new }
-{
-    let answer = edit_audited(n, e, cost, passing, time, ways, share, score);
-    print::edit_line(i, answer, out, at)
-}
+use print::Output;
+use words::read;
+use words::read::Lines;
 
 // Line i of the text.
-fn step(
-    i: u64,
-    line: &[u8],
-    n: u64,
-    out: &mut [u8],
-    at: usize,
-    cost: &mut [u32],
-    passing: &[u32],
-    time: &mut [u32],
-    ways: &mut [u32],
-    share: &mut [u64],
-    score: &mut [u64],
-) -> usize
-    requires audited { Audited n (these cost.old passing.now time.old ways.old share.old score.old) }
-    requires room { Room i at out.old }
-    ensures { Stepped n i (line_of (words line.now)) (found cost.old passing.now time.old ways.old share.old score.old) (left cost.new passing.now time.new ways.new share.new score.new) at out.old result out.new }
+fn step(i: u64, line: &[u8], n: u64, out: &mut Output<'_>, tables: &mut LentMut<'_>)
+    requires audited { Audited n (held tables.old) }
+    requires room { Room i out.old }
+    ensures { Stepped n i (line_of (words line.now)) (held tables.old) (held tables.new) out.old out.new }
 {
     match read::line_of(line) {
-        Line::Unread => print::unread_line(i, out, at),
-        Line::Read(e) => edit(i, e, n, out, at, cost, passing, time, ways, share, score),
+        None => out.unread_line(i),
+        Some(edit) => out.edit_line(i, edit_audited(n, edit, tables)),
     }
 }
 
 // The scores, a line for each stop.
-fn scores(score: &[u64], out: &mut [u8], start: usize) -> usize
-    requires { (length score.now ≤ most_stops) × (start + stop_bytes * length score.now ≤ length out.old) }
-    ensures { Printed (join_to (length score.now) (λ v. stop_line v (get_or score.now v 0))) start out.old result out.new }
+fn scores(score: &[u64], out: &mut Output<'_>)
+    requires { (length score.now ≤ most_stops) × (out.old.written + stop_bytes * length score.now ≤ length out.old.out.now) }
+    ensures { Prints (join_to (length score.now) (λ v. stop_line v (get_or score.now v 0))) out.old out.new }
 {
-    let mut at = start;
-    let mut v = 0;
-    while v < score.len() {
-        at = print::stop_line(v as u64, score[v], out, at);
-        v += 1;
+    for (v, x) in score.iter().enumerate() {
+        out.stop_line(v as u64, *x);
     }
-    at
 }
 
-// The lines of the text from a place on, the first of them the second of the text, and then the scores.
-fn run(
-    n: u64,
-    text: &[u8],
-    first: usize,
-    out: &mut [u8],
-    start: usize,
-    cost: &mut [u32],
-    passing: &[u32],
-    time: &mut [u32],
-    ways: &mut [u32],
-    share: &mut [u64],
-    score: &mut [u64],
-) -> usize
-    requires audited { Audited n (these cost.old passing.now time.old ways.old share.old score.old) }
-    requires ready { Ready text.now first out.old start }
-    ensures { Printed (report 2 (book_of n (found cost.old passing.now time.old ways.old share.old score.old)) (lines (drop first text.now))) start out.old result out.new }
+// The lines behind the first one, and then the scores.
+fn run(n: u64, rest: Lines<'_>, out: &mut Output<'_>, tables: &mut LentMut<'_>)
+    requires audited { Audited n (held tables.old) }
+    requires ready { Ready (lines rest.text.now) out.old }
+    ensures { Prints (report 2 (book_of n (held tables.old)) (lines rest.entry.text.now)) out.old out.new }
 {
-    let mut at = start;
-    let mut i: u64 = 2;
-    let mut from = first;
-    while from < text.len() {
-        let rest = &text[from..];
-        let e = read::index_of(rest, b'\n');
-        at = step(
-            i,
-            &rest[..e],
-            n,
-            out,
-            at,
-            cost,
-            passing,
-            time,
-            ways,
-            share,
-            score,
-        );
-        i += 1;
-        from = from + e + 1;
+    for (i, line) in rest.enumerate() {
+        step(i as u64 + 2, line, n, out, tables);
     }
-    scores(score, out, at)
+    scores(tables.score, out);
 }
 
 // The same on tables of any content beside passing times of 0, from an empty hall on.
-pub fn start(
-    n: u64,
-    text: &[u8],
-    first: usize,
-    out: &mut [u8],
-    at: usize,
-    cost: &mut [u32],
-    passing: &[u32],
-    time: &mut [u32],
-    ways: &mut [u32],
-    share: &mut [u64],
-    score: &mut [u64],
-) -> usize
-    requires inside { Inside n (these cost.old passing.now time.old ways.old share.old score.old) × (passing.now ≡ no_passing n) }
-    requires ready { Ready text.now first out.old at }
-    ensures { Printed (report 2 (empty_book n) (lines (drop first text.now))) at out.old result out.new }
+pub fn start(n: u64, rest: Lines<'_>, out: &mut Output<'_>, tables: &mut LentMut<'_>)
+    requires inside { Inside n (held tables.old) × (tables.old.passing.now ≡ no_passing n) }
+    requires ready { Ready (lines rest.text.now) out.old }
+    ensures { Prints (report 2 (empty_book n) (lines rest.entry.text.now)) out.old out.new }
 {
-    empty_hall(n, cost, passing, time, ways, share, score);
-    run(
-        n, text, first, out, at, cost, passing, time, ways, share, score,
-    )
+    let _ = empty_hall(n, tables);
+    run(n, rest, out, tables);
 }

@@ -1,2 +1,1 @@
 -- Definitions that the contracts cite. Assumes nothing.
-pub mod Room

@@ -2,16 +2,14 @@
 #![tactic(auto)]
 
 ghost use Rattle.std.specs.Prelude.{◌≡◌};
-ghost use Rattle.book.specs.Call.{number, image_check};
-ghost use Rattle.make_call.specs.Room.{Room};
+ghost use Rattle.book.specs.Call.{image_check};
+ghost use Rattle.calls.specs.Answers.{of_outcome};
 
-use calls::answer::{Answer, of_edit, of_list, of_refusal, of_write};
-use calls::call::{
-    AUDIT, CHEAPEN, Call, DELETE, EDIT_LIST, EMPTY_HALL, IMAGE_READ, IMAGE_WRITE, INSERT,
-    LIST_ROUTES, MOVE_OVER, RAISE, WORK_OUT, edit_of,
-};
-use calls::lengths::{COST, PASSING, SCORE, SHARE, TIME, WAYS, single, square};
-use calls::list::{List, numbers_of};
+use book::lent::LentMut;
+use calls::answer::Answer;
+use calls::call::{Act, Call};
+use calls::lengths::{Odd, Table};
+use calls::list::List;
 use calls::tables::{CELLS, STOPS, Tables};
 use edits::edit::edit;
 use flat_list::edit_flat;
@@ -24,112 +22,61 @@ use images::image_write::image_write;
 use moves::move_over;
 use route_lists::list_routes;
 
-// What a call answered, and the tables that it left.
-#[derive(Clone, Copy)]
-pub struct Done {
-    pub answer: Answer,
-    pub tables: Tables,
-}
-
 // An image check, which takes no tables.
 pub fn check(image: &[u8], n: u64) -> Answer
-    ensures { (result.refusal ≡ number (image_check n image.now)) × (result.touched ≡ 0) × (result.rows ≡ 0) × (result.before ≡ 0) × (result.place ≡ 0) × (result.length ≡ 0) }
+    ensures { result ≡ of_outcome (image_check n image.now) }
 {
-    of_refusal(image_check(image, n))
+    Answer::from(image_check(image, n))
 }
 
-// A route list from u to v.
-fn routes(
-    call: Call,
-    cost: &[u32],
-    passing: &[u32],
-    time: &[u32],
-    ways: &[u32],
-    share: &[u64],
-    score: &[u64],
-    buffer: &mut [u8],
-) -> Answer {
-    let n = call.n;
-    let s = call.u;
-    let t = call.v;
-    of_write(list_routes(n, s, t, cost, passing, time, ways, share, score, buffer))
+// A list of edits, lent as numbers.
+fn edit_list(n: u64, list: List, t: &mut LentMut<'_>) -> Answer {
+    let numbers = list.numbers();
+    let length = 4 * list.edits().len();
+    Answer::from(edit_flat(n, &numbers[..length], t))
 }
 
-// On lent tables. A list call takes the list, an image read and an image check the image, an image write and a route list the
-// buffer.
-fn on_lent(
-    call: Call,
-    list: &[u64],
-    image: &[u8],
-    buffer: &mut [u8],
-    cost: &mut [u32],
-    passing: &[u32],
-    time: &mut [u32],
-    ways: &mut [u32],
-    share: &mut [u64],
-    score: &mut [u64],
-) -> Answer {
-    let n = call.n;
-    let number = call.number;
-    match number {
-        EMPTY_HALL => of_refusal(empty_hall(n, cost, passing, time, ways, share, score)),
-        WORK_OUT => of_refusal(work_out(n, cost, passing, time, ways, share, score)),
-        AUDIT => of_refusal(audit(n, cost, passing, time, ways, share, score)),
-        INSERT | CHEAPEN | RAISE | DELETE => {
-            of_edit(edit(n, edit_of(call), cost, passing, time, ways, share, score))
+// On lent tables. Work out and move over take some of them to be read, and an image check takes none.
+fn on_lent(n: u64, act: Act, image: &[u8], buffer: &mut [u8], mut t: LentMut<'_>) -> Answer {
+    match act {
+        Act::EmptyHall => Answer::from(empty_hall(n, &mut t)),
+        Act::WorkOut => {
+            let LentMut {
+                cost,
+                passing,
+                time,
+                ways,
+                share,
+                score,
+            } = t;
+            Answer::from(work_out(n, cost, passing, time, ways, share, score))
         }
-        EDIT_LIST => of_list(edit_flat(n, list, cost, passing, time, ways, share, score)),
-        IMAGE_WRITE => of_write(image_write(n, cost, passing, time, ways, share, score, buffer)),
-        IMAGE_READ => of_refusal(image_read(n, image, cost, passing, time, ways, share, score)),
-        MOVE_OVER => of_refusal(move_over(n, cost, time, ways, share, score)),
-        LIST_ROUTES => routes(call, cost, passing, time, ways, share, score, buffer),
-        _ => check(image, n),
+        Act::Audit => Answer::from(audit(n, &t.view())),
+        Act::Edit(asked) => Answer::from(edit(n, asked, &mut t)),
+        Act::EditList(list) => edit_list(n, list, &mut t),
+        Act::ImageWrite => Answer::from(image_write(n, &t.view(), buffer)),
+        Act::ImageRead => Answer::from(image_read(n, image, &mut t)),
+        Act::MoveOver => {
+            let LentMut {
+                cost,
+                passing,
+                time,
+                ways,
+                share,
+                score,
+            } = t;
+            Answer::from(move_over(n, cost, time, ways, share, score))
+        }
+        Act::ListRoutes { s, t: end } => Answer::from(list_routes(n, s, end, &t.view(), buffer)),
+        Act::ImageCheck => check(image, n),
     }
 }
 
-// On the parts of longer tables.
+// On the parts of the tables that are lent. The tables come one by one: the check does not cover parts of arrays behind one struct.
 fn on_parts(
     call: Call,
     stops: u64,
-    odd: u64,
-    list: &[u64],
-    image: &[u8],
-    buffer: &mut [u8],
-    cost: &mut [u32],
-    passing: &[u32],
-    time: &mut [u32],
-    ways: &mut [u32],
-    share: &mut [u64],
-    score: &mut [u64],
-) -> Answer
-    requires { Room cost.old passing.now time.old ways.old share.old score.old }
-{
-    let p = square(stops, odd, COST);
-    let q = square(stops, odd, TIME);
-    let r = square(stops, odd, WAYS);
-    let s = square(stops, odd, SHARE);
-    let e = single(stops, odd, SCORE);
-    let l = single(stops, odd, PASSING);
-    on_lent(
-        call,
-        list,
-        image,
-        buffer,
-        &mut cost[0..p],
-        &passing[0..l],
-        &mut time[0..q],
-        &mut ways[0..r],
-        &mut share[0..s],
-        &mut score[0..e],
-    )
-}
-
-// The lengths of arrays are those of their types.
-fn on_arrays(
-    call: Call,
-    stops: u64,
-    odd: u64,
-    list: &[u64],
+    odd: Option<Odd>,
     image: &[u8],
     buffer: &mut [u8],
     cost: &mut [u32; CELLS],
@@ -139,57 +86,36 @@ fn on_arrays(
     share: &mut [u64; CELLS],
     score: &mut [u64; STOPS],
 ) -> Answer {
-    on_parts(
-        call, stops, odd, list, image, buffer, cost, passing, time, ways, share, score,
-    )
+    let lent = LentMut {
+        cost: &mut cost[..Table::Cost.lent(stops, odd)],
+        passing: &passing[..Table::Passing.lent(stops, odd)],
+        time: &mut time[..Table::Time.lent(stops, odd)],
+        ways: &mut ways[..Table::Ways.lent(stops, odd)],
+        share: &mut share[..Table::Share.lent(stops, odd)],
+        score: &mut score[..Table::Score.lent(stops, odd)],
+    };
+    on_lent(call.n, call.act, image, buffer, lent)
 }
 
-// The first k numbers, or all where there are fewer.
-fn first(numbers: &[u64], k: usize) -> &[u64] {
-    if k <= numbers.len() {
-        &numbers[0..k]
-    } else {
-        numbers
-    }
-}
-
-// On tables of a hall of so many stops, of which at most one is lent at an odd length.
+// On tables of a hall of so many stops, of which at most one is lent at an odd length. An image read and an image check take
+// the image, an image write and a route list the buffer.
 pub fn make(
     call: Call,
-    list: List,
     stops: u64,
-    odd: u64,
+    odd: Option<Odd>,
     image: &[u8],
     buffer: &mut [u8],
-    t: Tables,
-) -> Done {
-    let k = numbers_of(list.length);
-    let numbers = list.numbers;
-    let mut cost = t.cost;
-    let passing = t.passing;
-    let mut time = t.time;
-    let mut ways = t.ways;
-    let mut share = t.share;
-    let mut score = t.score;
-    let answer = on_arrays(
-        call,
-        stops,
-        odd,
-        first(&numbers, k),
-        image,
-        buffer,
-        &mut cost,
-        &passing,
-        &mut time,
-        &mut ways,
-        &mut share,
-        &mut score,
-    );
-    let mut tables = t;
-    tables.cost = cost;
-    tables.time = time;
-    tables.ways = ways;
-    tables.share = share;
-    tables.score = score;
-    Done { answer, tables }
+    tables: &mut Tables,
+) -> Answer {
+    let Tables {
+        cost,
+        passing,
+        time,
+        ways,
+        share,
+        score,
+    } = tables;
+    on_parts(
+        call, stops, odd, image, buffer, cost, passing, time, ways, share, score,
+    )
 }

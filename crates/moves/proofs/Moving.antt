@@ -1,20 +1,17 @@
--- The moving call, from its tests to what it promises; and the loop that divides. Assumes nothing.
-use Prim.Native.Nat.{ℕ, ◌/◌, ◌≤◌}
+-- The moving call, from its tests to what it promises. Assumes nothing.
+use Rattle.std.specs.Prelude.{Err}
+use Prim.Native.Nat.{ℕ, ◌≤◌}
 use native.Mathlib.Omega.{arith}
 use mathlib.Core.Path.{◌≡◌, refl, sym, ◌∙◌, ap, subst}
 use mathlib.Core.Bool.{Bool, true, false, ◌&&◌}
 use mathlib.Core.List.{List}
 use lib.Dec.{leb}
-use lib.ListN.{length, get_or, length-map, get_or-map}
-use lib.Seq.{ext_get_or}
 use Rattle.routes.specs.Route.{all_to}
-use Rattle.routes.specs.Stored.{Stored}
 use Rattle.routes.proofs.Tests.{all-flat}
-use Rattle.book.specs.Hall.{Tables, most_stops, most_ways, old_most_ways, old_scale, old_per_new, divided, up_to, entry, filled, sized, valid_passing, no_passing, uncrowded, right}
-use Rattle.book.specs.Call.{accepted, need, chain, rule, refusal, Done}
+use Rattle.book.specs.Hall.{Tables, most_stops, most_ways, old_most_ways, old_scale, divided, up_to, entry, filled, sized, valid_passing, no_passing, uncrowded, right}
+use Rattle.book.specs.Call.{accepted, need, chain, rule, refusal, Done, Accepted, Outcome}
 use Rattle.book.specs.Contract.{tables, of_refusal, Inside}
-use Rattle.book.specs.declared.Refusal.{Refusal}
-use Rattle.book.specs.declared.Refusal.TheVariants.{Accepted, BadSize, BadLength, BadTables, TooManyWays, BadPassing}
+use Rattle.book.specs.declared.Refusal.TheVariants.{BadSize, BadLength, BadTables, TooManyWays, BadPassing}
 use Rattle.book.proofs.Sizes.{lengths}
 use Rattle.book.proofs.Refused.{refused-done}
 use Rattle.book.proofs.Doors.{tests-passed, tests-refused, accepted-done}
@@ -24,16 +21,6 @@ use Rattle.book.proofs.Moves.{moving, move-tests, move-leaves, move-divides}
 use Rattle.routes.proofs.Booleans.{both}
 use Rattle.cells.specs.Promise.{none_above}
 
--- an entry divided
-abbrev pub part : List ℕ → ℕ → ℕ
-part l i = get_or l i 0 / old_per_new
-
--- a loop that stored all of them from the front has divided the list
-pub stored-divided : {k : ℕ} {old now : List ℕ} → length old ≤ k → Stored (part old) k old now → now ≡ divided old
-stored-divided {k} {old} {now} end s =
-    ext_get_or 0 now (divided old) (s.long ∙ sym (length-map old (λ x. x / old_per_new)))
-    (λ i l. s.done i (omega (arith, s.long)) ∙ sym (get_or-map (λ x. x / old_per_new) old i 0))
-
 module _ (n : ℕ) (cost time ways share score : List ℕ) where
   abbrev with : List ℕ → Tables
   with passing = tables cost passing time ways share score
@@ -42,17 +29,17 @@ module _ (n : ℕ) (cost time ways share score : List ℕ) where
   abbrev t : Tables
   t = with (no_passing n)
 
-  abbrev pub Tested : Refusal → Type 0
+  abbrev pub Tested : Outcome → Type 0
   Tested r = r ≡ chain n (sized n t) (valid_passing n (no_passing n)) (right old_scale old_most_ways n t) Accepted
 
   -- a table of its own that holds these
-  pub tested : {none : List ℕ} {r : Refusal} → none ≡ no_passing n → r ≡ chain n (sized n (with none)) (valid_passing n none) (right old_scale old_most_ways n (with none)) Accepted → Tested r
+  pub tested : {none : List ℕ} {r : Outcome} → none ≡ no_passing n → r ≡ chain n (sized n (with none)) (valid_passing n none) (right old_scale old_most_ways n (with none)) Accepted → Tested r
   tested {none} {r} e told = subst (λ p. r ≡ chain n (sized n (with p)) (valid_passing n p) (right old_scale old_most_ways n (with p)) Accepted) e told
 
   -- no number of stops
-  pub move-sizeless : up_to most_stops n ≡ false → Done (moving n) t t (of_refusal BadSize)
+  pub move-sizeless : up_to most_stops n ≡ false → Done (moving n) t t (of_refusal (Err BadSize))
   unfolding refusal rule
-  move-sizeless e = refused-done (moving n) t BadSize (rw e) refl
+  move-sizeless e = refused-done (moving n) t (Err BadSize) (rw e) refl
 
   -- test 3 is the old audit, and that no pair has more ways than the old limit
   abbrev old : Bool
@@ -62,11 +49,11 @@ module _ (n : ℕ) (cost time ways share score : List ℕ) where
   kept = uncrowded old_most_ways n t.layout
 
   -- refused with 1 or 2, or by the audit
-  pub move-shut : {r : Refusal} → Tested r → accepted r ≡ false → Done (moving n) t t (of_refusal r)
+  pub move-shut : {r : Outcome} → Tested r → accepted r ≡ false → Done (moving n) t t (of_refusal r)
   unfolding rule
   move-shut {r} e shut = tests-refused (moving n) t (λ s. refl) refl r (e ∙ more (up_to most_stops n) (sized n t) (valid_passing n (no_passing n)) old (ap accepted (sym e) ∙ shut)) shut
     where
-      chained : Bool → Bool → Bool → Bool → Refusal
+      chained : Bool → Bool → Bool → Bool → Outcome
       chained size lengths passable sound = need size BadSize (need lengths BadLength (need passable BadPassing (need sound BadTables Accepted)))
 
       more : (size lengths passable sound : Bool) → accepted (chained size lengths passable sound) ≡ false → chained size lengths passable sound ≡ chained size lengths passable (sound && kept)
@@ -76,7 +63,7 @@ module _ (n : ℕ) (cost time ways share score : List ℕ) where
       more true true true false shut = refl
       more true true true true shut = absurd (both refl shut)
 
-  module _ {r : Refusal} (e : Tested r) (ok : accepted r ≡ true) where
+  module _ {r : Outcome} (e : Tested r) (ok : accepted r ≡ true) where
     passed : Inside n t × (old ≡ true)
     passed = tests-passed n t old e ok
 
@@ -88,12 +75,12 @@ module _ (n : ℕ) (cost time ways share score : List ℕ) where
         all ∙ sym (ap (λ x. all_to n (λ s. all_to n (λ v. leb (entry n x.ways s v) m))) same) ∙ few-entries old_scale m old_most_ways n t.layout less
 
     -- more ways than the old limit
-    pub move-bad : none_above old_most_ways ways ≡ false → Done (moving n) t t (of_refusal BadTables)
+    pub move-bad : none_above old_most_ways ways ≡ false → Done (moving n) t t (of_refusal (Err BadTables))
     unfolding refusal rule
     move-bad many =
         let (inside, found) = passed in
         let full : kept ≡ false = sym (flat old_most_ways (omega arith)) ∙ many in
-        refused-done (moving n) t BadTables (rw (inside.size, inside.lengths, inside.passable, found, full)) refl
+        refused-done (moving n) t (Err BadTables) (rw (inside.size, inside.lengths, inside.passable, found, full)) refl
 
     module _ (within : none_above old_most_ways ways ≡ true) where
       -- behind these comes 11
@@ -103,9 +90,9 @@ module _ (n : ℕ) (cost time ways share score : List ℕ) where
           move-tests n t refl inside.size inside.lengths found (sym (flat old_most_ways (omega arith)) ∙ within) ∙
           ap (λ b. need b TooManyWays Accepted) (sym (flat most_ways (omega arith)))
 
-      pub move-crowded : none_above most_ways ways ≡ false → Done (moving n) t t (of_refusal TooManyWays)
+      pub move-crowded : none_above most_ways ways ≡ false → Done (moving n) t t (of_refusal (Err TooManyWays))
       unfolding rule
-      move-crowded many = refused-done (moving n) t TooManyWays (told ∙ rw many) refl
+      move-crowded many = refused-done (moving n) t (Err TooManyWays) (told ∙ rw many) refl
 
       pub move-accepted : none_above most_ways ways ≡ true → {share' score' : List ℕ} → share' ≡ divided share → score' ≡ divided score →
           Done (moving n) t (tables cost (no_passing n) time ways share' score') (of_refusal Accepted)

@@ -7,17 +7,18 @@ ghost use Rattle.book.specs.Call.{move_over, Done};
 ghost use Rattle.book.specs.Contract.{found_unpassed, left_shares, of_refusal};
 
 use book::Refusal;
+use book::lent::Lent;
 use book::limits::Hall;
-use book::number_of::passes;
 use cells::costs;
 use hall::audit::audit_by;
+use links::measure::Measure;
 
 // Divides every entry by the quotient of the two scales.
 fn divide(table: &mut [u64])
     ensures { table.new ≡ divided table.old }
 {
-    for i in 0..table.len() {
-        table[i] /= Hall::OLD_PER_NEW;
+    for entry in table.iter_mut() {
+        *entry /= Hall::OLD_PER_NEW;
     }
 }
 
@@ -30,34 +31,33 @@ pub fn move_over(
     ways: &[u32],
     share: &mut [u64],
     score: &mut [u64],
-) -> Refusal
+) -> Result<(), Refusal>
     ensures { Done (record { n = n; ask = move_over }) (found_unpassed n cost.now time.now ways.now share.old score.old) (left_shares n cost.now time.now ways.now share.new score.new) (of_refusal result) }
 {
     if !Hall::takes(n) {
-        return Refusal::BadSize;
+        return Err(Refusal::BadSize);
     }
-    let none = [0u32; Hall::STOPS];
-    let verdict = audit_by(
-        Hall::OLD_WAYS,
-        Hall::OLD_SCALE,
-        n,
+    let none = [0; Hall::STOPS];
+    let t = Lent {
         cost,
-        &none[..n as usize],
+        passing: &none[..n as usize],
         time,
         ways,
         share,
         score,
-    );
-    if !passes(verdict) {
-        return verdict;
-    }
+    };
+    let old = Measure {
+        limit: Hall::OLD_WAYS,
+        scale: Hall::OLD_SCALE,
+    };
+    audit_by(old, n, &t)?;
     if !costs::within(Hall::OLD_WAYS, ways) {
-        return Refusal::BadTables;
+        return Err(Refusal::BadTables);
     }
     if !costs::within(Hall::WAYS, ways) {
-        return Refusal::TooManyWays;
+        return Err(Refusal::TooManyWays);
     }
     divide(share);
     divide(score);
-    Refusal::Accepted
+    Ok(())
 }

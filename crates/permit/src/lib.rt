@@ -14,92 +14,80 @@ use cells::places;
 fn is_pair(n: u64, u: u64, v: u64) -> bool
     ensures { result ≡ valid_pair n u v }
 {
-    if n <= u {
-        return false;
-    }
-    if n <= v {
-        return false;
-    }
-    u != v
+    u < n && v < n && u != v
 }
 
 // A cost that a link may have.
 fn is_cost(c: u64) -> bool
     ensures { result ≡ up_to largest_cost c }
 {
-    if c == 0 {
-        return false;
-    }
-    c <= Hall::LARGEST_COST as u64
+    1 <= c && c <= u64::from(Hall::LARGEST_COST)
 }
 
-fn permit_insert(c: u64, present: u32) -> Refusal
+fn permit_insert(c: u64, present: u32) -> Result<(), Refusal>
     ensures { result ≡ cost_tests Insert c present }
 {
     if !is_cost(c) {
-        return Refusal::BadCost;
+        return Err(Refusal::BadCost);
     }
     if present != 0 {
-        return Refusal::LinkPresent;
+        return Err(Refusal::LinkPresent);
     }
-    Refusal::Accepted
+    Ok(())
 }
 
 // Another cost for a link. `wanted` says that it lies on the side of the present one that the kind wants.
-fn permit_other_cost(wanted: bool, c: u64, present: u32) -> Refusal
+fn permit_other_cost(wanted: bool, c: u64, present: u32) -> Result<(), Refusal>
     ensures { result ≡ other_cost_tests wanted c present }
 {
     if !is_cost(c) {
-        return Refusal::BadCost;
+        return Err(Refusal::BadCost);
     }
     if present == 0 {
-        return Refusal::LinkAbsent;
+        return Err(Refusal::LinkAbsent);
     }
     if !wanted {
-        return Refusal::CostWrongSide;
+        return Err(Refusal::CostWrongSide);
     }
-    Refusal::Accepted
+    Ok(())
 }
 
-fn permit_cheapen(c: u64, present: u32) -> Refusal
+fn permit_cheapen(c: u64, present: u32) -> Result<(), Refusal>
     ensures { result ≡ cost_tests Cheapen c present }
 {
-    permit_other_cost(c < present as u64, c, present)
+    permit_other_cost(c < u64::from(present), c, present)
 }
 
-fn permit_raise(c: u64, present: u32) -> Refusal
+fn permit_raise(c: u64, present: u32) -> Result<(), Refusal>
     ensures { result ≡ cost_tests Raise c present }
 {
-    permit_other_cost((present as u64) < c, c, present)
+    permit_other_cost(u64::from(present) < c, c, present)
 }
 
-fn permit_delete(c: u64, present: u32) -> Refusal
-    ensures { result ≡ cost_tests Delete c present }
+// A delete has no cost to test.
+fn permit_delete(present: u32) -> Result<(), Refusal>
+    ensures { result ≡ cost_tests Delete 0 present }
 {
     if present == 0 {
-        return Refusal::LinkAbsent;
+        return Err(Refusal::LinkAbsent);
     }
-    Refusal::Accepted
+    Ok(())
 }
 
 // Tests 4 to 8. Its callers prove that the cost table has its length.
-pub fn permit(n: u64, e: Edit, cost: &[u32]) -> Refusal
+pub fn permit(n: u64, e: Edit, cost: &[u32]) -> Result<(), Refusal>
     requires { (n ≤ 64) × (length cost.now ≡ n * n) }
     ensures { result ≡ edit_refusal n e cost.now }
 {
-    let u = e.u;
-    let v = e.v;
-    if !is_pair(n, u, v) {
-        return Refusal::BadStop;
+    if !is_pair(n, e.u, e.v) {
+        return Err(Refusal::BadStop);
     }
-    let present = places::read_entry(n as usize, u as usize, v as usize, cost);
-    let c = e.cost;
-    let kind = e.kind;
-    match kind {
-        Kind::Insert => permit_insert(c, present),
-        Kind::Cheapen => permit_cheapen(c, present),
-        Kind::Raise => permit_raise(c, present),
-        Kind::Delete => permit_delete(c, present),
+    let present = places::read_entry(n as usize, e.u as usize, e.v as usize, cost);
+    match e.kind {
+        Kind::Insert => permit_insert(e.cost, present),
+        Kind::Cheapen => permit_cheapen(e.cost, present),
+        Kind::Raise => permit_raise(e.cost, present),
+        Kind::Delete => permit_delete(present),
     }
 }
 
@@ -108,12 +96,8 @@ pub fn cost_set(e: Edit) -> u32
     requires { cost_set e.kind e.cost ≤ largest_cost }
     ensures { result ≡ cost_set e.kind e.cost }
 {
-    let c = e.cost;
-    let kind = e.kind;
-    match kind {
-        Kind::Insert => c as u32,
-        Kind::Cheapen => c as u32,
-        Kind::Raise => c as u32,
+    match e.kind {
+        Kind::Insert | Kind::Cheapen | Kind::Raise => e.cost as u32,
         Kind::Delete => 0,
     }
 }

@@ -1,86 +1,102 @@
-// Printing: each function writes its text from a place on, and gives the place behind it.
+// Printing: each method writes its text behind what an output holds.
 #![tactic(auto)]
 
-ghost use Rattle.std.specs.Prelude.{◌+◌, ◌≤◌, length, ◌++◌};
+ghost use Rattle.std.specs.Prelude.{◌≡◌, ◌++◌};
+ghost use Rattle.book.specs.Call.{number};
 ghost use Rattle.book.specs.Contract.{of_edit};
 ghost use Rattle.words.specs.Text.{decimal as Text·decimal, hall_line, edit_line, unread_line, stop_line};
-ghost use Rattle.print.specs.Promise.{Printed};
+ghost use Rattle.print.specs.Promise.{Fits, Prints};
 
-use book::EditAnswer;
 use book::limits::Hall;
-use book::number_of::number_of;
+use book::{Edited, Refusal};
+use itoa::Buffer;
 
-// A text.
-pub fn put(text: &[u8], out: &mut [u8], at: usize) -> usize
-    requires { at + length text.now ≤ length out.old }
-    ensures { Printed text.now at out.old result out.new }
+// The numbers behind an edit's line number: its refusal, the touched rows and the cost before.
+fn told(answer: Result<Edited, Refusal>) -> (u32, u32, u32)
+    ensures refusal { result.0 ≡ number (of_edit answer).refusal }
+    ensures rows { result.1 ≡ (of_edit answer).rows }
+    ensures before { result.2 ≡ (of_edit answer).before }
 {
-    let end = at + text.len();
-    out[at..end].copy_from_slice(text);
-    end
-}
-
-// A number.
-fn decimal(x: u64, out: &mut [u8], at: usize) -> usize
-    requires { at + length (Text·decimal x) ≤ length out.old }
-    ensures { Printed (Text·decimal x) at out.old result out.new }
-{
-    if x < 10 {
-        out[at] = 48 + x as u8;
-        return at + 1;
+    match answer {
+        Ok(edited) => (0, edited.rows, edited.before),
+        Err(refusal) => (refusal.number(), 0, 0),
     }
-    let end = decimal(x / 10, out, at);
-    out[end] = 48 + (x % 10) as u8;
-    end + 1
 }
 
-// A text and a number behind it.
-fn labelled(text: &[u8], x: u64, out: &mut [u8], at: usize) -> usize
-    requires { at + length (text.now ++ Text·decimal x) ≤ length out.old }
-    ensures { Printed (text.now ++ Text·decimal x) at out.old result out.new }
-{
-    let a = put(text, out, at);
-    decimal(x, out, a)
+// A lent output, the front of which is written.
+#[derive(Drop)]
+pub struct Output<'a> {
+    pub out: &'a mut [u8],
+    pub written: usize,
 }
 
-// The line of an unread line.
-pub fn unread_line(i: u64, out: &mut [u8], at: usize) -> usize
-    requires { at + length (unread_line i) ≤ length out.old }
-    ensures { Printed (unread_line i) at out.old result out.new }
-{
-    let a = decimal(i, out, at);
-    put(b" unread\n", out, a)
-}
+impl Output<'_> {
+    // A text.
+    pub fn put(&mut self, text: &[u8])
+        requires { Fits text.now self.old }
+        ensures { Prints text.now self.old self.new }
+    {
+        let end = self.written + text.len();
+        self.out[self.written..end].copy_from_slice(text);
+        self.written = end;
+    }
 
-// The line of an edit.
-pub fn edit_line(i: u64, a: EditAnswer, out: &mut [u8], at: usize) -> usize
-    requires { at + length (edit_line i (of_edit a)) ≤ length out.old }
-    ensures { Printed (edit_line i (of_edit a)) at out.old result out.new }
-{
-    let refusal = a.refusal;
-    let x = decimal(i, out, at);
-    let y = labelled(b" ", number_of(refusal) as u64, out, x);
-    let z = labelled(b" ", a.rows as u64, out, y);
-    let end = labelled(b" ", a.before as u64, out, z);
-    put(b"\n", out, end)
-}
+    // A number.
+    fn decimal(&mut self, x: u64)
+        requires { Fits (Text·decimal x) self.old }
+        ensures { Prints (Text·decimal x) self.old self.new }
+    {
+        self.put(Buffer::new().format(x).as_bytes());
+    }
 
-// The line of a stop.
-pub fn stop_line(v: u64, score: u64, out: &mut [u8], at: usize) -> usize
-    requires { at + length (stop_line v score) ≤ length out.old }
-    ensures { Printed (stop_line v score) at out.old result out.new }
-{
-    let a = labelled(b"stop ", v, out, at);
-    let b = labelled(b" score ", score, out, a);
-    put(b"\n", out, b)
-}
+    // A text and a number behind it.
+    fn labelled(&mut self, text: &[u8], x: u64)
+        requires { Fits (text.now ++ Text·decimal x) self.old }
+        ensures { Prints (text.now ++ Text·decimal x) self.old self.new }
+    {
+        self.put(text);
+        self.decimal(x);
+    }
 
-// The first line.
-pub fn hall_line(n: u64, out: &mut [u8], at: usize) -> usize
-    requires { at + length (hall_line n) ≤ length out.old }
-    ensures { Printed (hall_line n) at out.old result out.new }
-{
-    let a = labelled(b"hall ", n, out, at);
-    let b = labelled(b" scale ", Hall::SCALE, out, a);
-    put(b"\n", out, b)
+    // The line of an unread line.
+    pub fn unread_line(&mut self, i: u64)
+        requires { Fits (unread_line i) self.old }
+        ensures { Prints (unread_line i) self.old self.new }
+    {
+        self.decimal(i);
+        self.put(b" unread\n");
+    }
+
+    // The line of an edit.
+    pub fn edit_line(&mut self, i: u64, answer: Result<Edited, Refusal>)
+        requires { Fits (edit_line i (of_edit answer)) self.old }
+        ensures { Prints (edit_line i (of_edit answer)) self.old self.new }
+    {
+        let (refusal, rows, before) = told(answer);
+        self.decimal(i);
+        self.labelled(b" ", u64::from(refusal));
+        self.labelled(b" ", u64::from(rows));
+        self.labelled(b" ", u64::from(before));
+        self.put(b"\n");
+    }
+
+    // The line of a stop.
+    pub fn stop_line(&mut self, v: u64, score: u64)
+        requires { Fits (stop_line v score) self.old }
+        ensures { Prints (stop_line v score) self.old self.new }
+    {
+        self.labelled(b"stop ", v);
+        self.labelled(b" score ", score);
+        self.put(b"\n");
+    }
+
+    // The first line.
+    pub fn hall_line(&mut self, n: u64)
+        requires { Fits (hall_line n) self.old }
+        ensures { Prints (hall_line n) self.old self.new }
+    {
+        self.labelled(b"hall ", n);
+        self.labelled(b" scale ", Hall::SCALE);
+        self.put(b"\n");
+    }
 }

@@ -3,14 +3,14 @@ use Prim.Native.Nat.{ℕ, zero, suc, ◌+◌, ◌*◌, ◌<◌, ◌≤◌, min}
 use mathlib.Core.Path.{◌≡◌, refl, sym, ◌∙◌, ap, ap₂}
 use mathlib.Core.Bool.{Bool, true, false, cond, and-eq-true_iff}
 use mathlib.Core.List.{List, ◌++◌}
-use native.Mathlib.Nat.{zero-add, zero-mul, mul-zero, mul_comm, mul-le-mul, le-mul_of_pos_right, min-eq_right, add_assoc}
+use native.Mathlib.Nat.{zero-add, zero-mul, mul-zero, mul_comm, le-mul_of_pos_right, min-eq_right, add_assoc}
 use native.Mathlib.Omega.{arith}
 use lib.Dec.{eqb, ltb}
 use lib.ListN.{length, get_or, drop, set}
 use lib.Seq.{sets, sets-eq}
 use borrow.Author.Tests.{le-leb, ltb-true, lt-ltb}
 use Rattle.routes.specs.Route.{Costs, uses, least_time, quickest, ways as ways_of, through, capped_ways, quickest_routes}
-use Rattle.routes.proofs.Booleans.{both, bool_iff}
+use Rattle.routes.proofs.Booleans.{bool_iff}
 use Rattle.routes.proofs.Sums.{sum_to-cong}
 use Rattle.routes.proofs.Times.{least-source}
 use Rattle.routes.proofs.Listed.{listed-ways}
@@ -18,10 +18,7 @@ use Rattle.routes.proofs.Shared.{through-le}
 use Rattle.routes.proofs.Joined.{spent, through-adds-from}
 use Rattle.routes.proofs.WalkingFrom.{onward, onward-spent, walk-lists-from, leads-exactly-from}
 use Rattle.book.specs.Hall.{Layout, Tables, most_stops, most_ways, largest_cost, largest_passing, scale, entry, costs_in, filled, crowded_pair, route_bytes, route_list}
-use Rattle.book.specs.Call.{list_routes, accepted, plain, Done}
 use Rattle.book.specs.Contract.{Audited}
-use Rattle.book.specs.declared.Refusal.{Refusal}
-use Rattle.book.specs.declared.Refusal.TheVariants.{Accepted}
 use Rattle.book.proofs.Sizes.{stops, lengths}
 use Rattle.book.proofs.Filled.{right-true}
 use Rattle.book.proofs.Tables.{length-table, entry-table}
@@ -30,15 +27,7 @@ use Rattle.book.proofs.Small.{dearest, costs-within, passing-within, within, sma
 use Rattle.book.proofs.Uncrowded.{pair-few}
 use Rattle.book.proofs.RouteLists.{routes-length, routes-most}
 use Rattle.route_walk.specs.Promise.{on_from, Ready, leads_on, bytes_whole, Wrote}
-use Rattle.route_lists.specs.Promise.{visiting_by, stops_in_all, Counted, Listable, Admits}
-
--- the routes that visit a stop are few
-pub visiting-few : (near far all coming going : ℕ) → coming ≤ most_ways + 1 → going ≤ most_ways + 1 → visiting_by near far all coming going ≤ 169
-visiting-few near far all coming going h k = go (eqb (near + far) all)
-  where
-    go : (b : Bool) → cond b (coming * going) 0 ≤ 169
-    go true = mul-le-mul h k
-    go false = omega arith
+use Rattle.route_lists.specs.Promise.{visiting_by, stops_in_all, Few, Listable, Open}
 
 -- numbers with a small product are small, unless one of them is 0
 capped-product : (m x y : ℕ) → x * y ≤ m → min (suc m) x * min (suc m) y ≡ x * y
@@ -95,15 +84,10 @@ module _ {n s t : ℕ} {l : Layout} {time ways : List ℕ} (K : Listable n s t l
   onward-at : (v : ℕ) → v < n → on_from n s t l.passing time v ≡ onward W p n s t v
   onward-at v j = rw (time-at v t j K.to)
 
-  -- the tables that the length is read from
-  pub counted : Counted n s t l.passing time ways
+  -- the ways that the length is read from
+  pub counted : Few n ways
   unfolding filled
   counted = record {
-    most = K.most;
-    from = K.from;
-    to = K.to;
-    long = K.long;
-    times = times_long;
     counts = ap length K.counts ∙ length-table n (λ u. capped_ways (costs_in n l u) n u most_ways);
     few = λ u v i j. rw (ways-at u v i j) (omega arith);
   }
@@ -134,11 +118,11 @@ module _ {n s t : ℕ} {l : Layout} {time ways : List ℕ} (K : Listable n s t l
   list-short = routes-most n l held s t K.from K.to K.free
 
   -- the walk has what it asks for
-  pub ready : Ready n s t l.cost l.passing time × (entry n time s s ≡ 0)
-  ready = (
-    record { most = K.most; from = K.from; to = K.to; square = K.square; long = K.long; times = times_long },
-    time-at s s K.from K.from ∙ least-source (costs_in n l s) n s dearest K.from (within (workable held) s) (small (workable held)),
-  )
+  pub ready : Ready n s t l.cost l.passing time
+  ready = record { most = K.most; from = K.from; to = K.to; square = K.square; long = K.long; times = times_long }
+
+  pub own : entry n time s s ≡ 0
+  own = time-at s s K.from K.from ∙ least-source (costs_in n l s) n s dearest K.from (within (workable held) s) (small (workable held))
 
   -- what it asks of a link, by the tables alone, is whether some quickest route from s to t uses it
   pub takes-exactly : (u y : ℕ) → u < n → y < n → leads_on n s t l.cost l.passing time u y ≡ ltb 0 (quickest (costs_in n l s) n s (uses u y) t)
@@ -172,19 +156,19 @@ pub front-stored : (bytes b : List ℕ) → length bytes ≤ length b → sets b
 front-stored bytes b h = sets-eq bytes b 0 (omega arith) ∙ rw zero-add
 
 -- right tables, and two stops that are no crowded pair
-pub known : (n : ℕ) (t : Tables) (s x : ℕ) → Audited n t → s < n → x < n → crowded_pair most_ways n t.layout s x ≡ false → Listable n s x t.layout t.time t.ways
-known n t s x a i j free =
-    let (valid, same) = right-true scale most_ways n t a.sound in
-    let sizes = lengths n t a.inside.lengths in
+pub known : (n s x : ℕ) (t : Tables) → Open n s x t → Listable n s x t.layout t.time t.ways
+known n s x t o =
+    let (valid, same) = right-true scale most_ways n t o.sound.sound in
+    let sizes = lengths n t o.sound.inside.lengths in
     record {
-      most = (stops n a.inside.size).1;
-      from = i;
-      to = j;
+      most = (stops n o.sound.inside.size).1;
+      from = o.from;
+      to = o.to;
       square = sizes.costs;
       long = sizes.passings;
       valid = valid;
-      passable = a.inside.passable;
-      free = free;
+      passable = o.sound.inside.passable;
+      free = o.free;
       times = ap (λ t. t.time) (sym same);
       counts = ap (λ t. t.ways) (sym same);
     }
@@ -198,11 +182,3 @@ crowded-entry n t s x a i j =
   where
     cut : (w : ℕ) → ltb most_ways (min (suc most_ways) w) ≡ ltb most_ways w
     cut w = bool_iff _ _ (λ e. lt-ltb most_ways w (omega (arith, ltb-true most_ways (min (suc most_ways) w) e))) (λ e. lt-ltb most_ways (min (suc most_ways) w) (omega (arith, ltb-true most_ways w e)))
-
--- a list that fails one of the tests before the buffer's
-pub shut_out : {n s x : ℕ} {t : Tables} {r : Refusal} → accepted r ≡ false → ((buffer : List ℕ) → Done (record { n = n; ask = list_routes s x buffer }) t t (plain r buffer)) → Admits n s x t r
-shut_out e d = record { shut = λ f b. d b; sound = λ ok. absurd (both ok e); from = λ ok. absurd (both ok e); to = λ ok. absurd (both ok e); free = λ ok. absurd (both ok e) }
-
--- and one that passes all
-pub let-in : {n s x : ℕ} {t : Tables} → Audited n t → s < n → x < n → crowded_pair most_ways n t.layout s x ≡ false → Admits n s x t Accepted
-let-in a i j f = record { shut = λ e. absurd (both refl e); sound = λ ok. a; from = λ ok. i; to = λ ok. j; free = λ ok. f }

@@ -1,19 +1,13 @@
 -- What the parts of the route list promise. Assumes nothing.
-use Rattle.std.specs.Prelude.{ℕ, ◌+◌, ◌*◌, ◌<◌, ◌≤◌, ◌≡◌, true, false, cond, List, eqb, length}
+use Rattle.std.specs.Prelude.{ℕ, ◌+◌, ◌*◌, ◌<◌, ◌≤◌, ◌≡◌, true, false, cond, List, Ok, Err, eqb, length}
 use Rattle.routes.specs.Route.{sum_to}
 use Rattle.book.specs.Hall.{Layout, Tables, most_ways, scale, entry, filled, valid_costs, valid_passing, crowded_pair}
-use Rattle.book.specs.Call.{list_routes, accepted, plain, Done}
+use Rattle.book.specs.Call.{list_routes, plain, Done, Outcome}
 use Rattle.book.specs.Contract.{Audited}
-use Rattle.book.specs.declared.Refusal.{Refusal}
 use Rattle.route_walk.specs.Promise.{on_from}
 
--- two stops, passing times, and tables of times and ways, no entry of which is above that of a crowded pair
-pub record Counted (n s t : ℕ) (passing time ways : List ℕ) : Type 0 where
-  pub most : n ≤ 64
-  pub from : s < n
-  pub to : t < n
-  pub long : length passing ≡ n
-  pub times : length time ≡ n * n
+-- a table of ways, no entry of which is above that of a crowded pair
+pub record Few (n : ℕ) (ways : List ℕ) : Type 0 where
   pub counts : length ways ≡ n * n
   pub few : (u v : ℕ) → u < n → v < n → entry n ways u v ≤ most_ways + 1
 
@@ -39,11 +33,14 @@ pub record Listable (n s t : ℕ) (l : Layout) (time ways : List ℕ) : Type 0 w
   pub times : time ≡ (filled scale most_ways n l).time
   pub counts : ways ≡ (filled scale most_ways n l).ways
 
--- the tests before the buffer's: a list that fails one is refused by it, whatever its buffer, and else there are right tables and two stops
--- that are no crowded pair
-pub record Admits (n s x : ℕ) (t : Tables) (r : Refusal) : Type 0 where
-  pub shut : accepted r ≡ false → (buffer : List ℕ) → Done (record { n = n; ask = list_routes s x buffer }) t t (plain r buffer)
-  pub sound : accepted r ≡ true → Audited n t
-  pub from : accepted r ≡ true → s < n
-  pub to : accepted r ≡ true → x < n
-  pub free : accepted r ≡ true → crowded_pair most_ways n t.layout s x ≡ false
+-- right tables, and two of their stops that are no crowded pair
+pub record Open (n s x : ℕ) (t : Tables) : Type 0 where
+  pub sound : Audited n t
+  pub from : s < n
+  pub to : x < n
+  pub free : crowded_pair most_ways n t.layout s x ≡ false
+
+-- the tests before the buffer's: a list that fails one is refused by it, whatever its buffer, and else there are such tables and stops
+abbrev pub Admits : (n s x : ℕ) → (t : Tables) → Outcome → Type 0
+Admits n s x t (Ok _) = Open n s x t
+Admits n s x t (Err r) = (buffer : List ℕ) → Done (record { n = n; ask = list_routes s x buffer }) t t (plain (Err r) buffer)

@@ -1,125 +1,92 @@
 // The route list: the quickest routes from one stop to another, in a lent buffer.
 #![tactic(auto)]
 
-ghost use Rattle.std.specs.Prelude.{◌≡◌, ◌+◌, ◌^◌, ◌<◌, ◌≤◌, length};
+ghost use Rattle.std.specs.Prelude.{◌≡◌, ◌<◌, ◌≤◌, length};
 ghost use Rattle.std.proofs.lemmas.List.Edits.{sets};
-ghost use Rattle.book.specs.Hall.{most_ways, route_list};
 ghost use Rattle.book.specs.Call.{list_routes, Done};
-ghost use Rattle.book.specs.Contract.{this_layout, found_layout, found, of_write, stored};
-ghost use Rattle.route_lists.specs.Promise.{visiting_by, Counted, Listable, Admits, stops_in_all};
+ghost use Rattle.book.specs.Contract.{seen, of_write, stored};
+ghost use Rattle.route_lists.specs.Promise.{Few, Admits};
+ghost use Rattle.route_lists.specs.Listed.{visits, all_stops, Lists, list_of};
 
+use book::Refusal;
+use book::lent::Lent;
 use book::limits::Hall;
-use book::number_of::passes;
-use book::{Refusal, WriteAnswer};
 use cells::places::read_entry;
 use hall::audit::audit;
+use route_walk::trip::Trip;
 use route_walk::{on_from, put_routes};
 
-// How many of the routes visit a stop: near and coming are the time and the ways to it, far and going those on from it, far with what it
-// takes to pass it, and all is the time of the whole.
-fn visiting(near: u32, far: u64, all: u32, coming: u32, going: u32) -> usize
-    requires { (far < 2 ^ 33) × (coming ≤ most_ways + 1) × (going ≤ most_ways + 1) }
-    ensures { result ≡ visiting_by near far all coming going }
+// How many of the routes visit the stop v: the ways to it times those on from it, where the times to it and on from it, with what it
+// takes to pass it, are the time of the whole.
+fn visiting(trip: &Trip<'_>, ways: &[u32], v: usize) -> usize
+    requires { Few trip.now.n ways.now × (v < trip.now.n) }
+    ensures { (result ≡ visits trip.now ways.now v) × (result ≤ 169) }
 {
-    if near as u64 + far != all as u64 {
+    let Trip {
+        n,
+        s,
+        t,
+        passing,
+        time,
+        ..
+    } = *trip;
+    let near = u64::from(read_entry(n, s, v, time));
+    let far = on_from(n, s, t, v, passing, time);
+    if near + far != u64::from(read_entry(n, s, t, time)) {
         return 0;
     }
-    (coming * going) as usize
+    (read_entry(n, s, v, ways) * read_entry(n, v, t, ways)) as usize
 }
 
-// How many stops the routes have in all: each stop counts once for every route that visits it.
-fn stops_in_all(n: usize, s: usize, t: usize, passing: &[u32], time: &[u32], ways: &[u32]) -> usize
-    requires { Counted n s t passing.now time.now ways.now }
-    ensures { result ≡ stops_in_all n s t passing.now time.now ways.now }
+// How many stops the routes have in all: each stop counts once for every route that visits it. A loop, since the bound of a chain's
+// `sum` over a range is not proved by what each stop adds.
+fn stops_in_all(trip: &Trip<'_>, ways: &[u32]) -> usize
+    requires { Few trip.now.n ways.now }
+    ensures { result ≡ all_stops trip.now ways.now }
 {
-    let all = read_entry(n, s, t, time);
     let mut stops = 0;
-    for v in 0..n {
-        let near = read_entry(n, s, v, time);
-        let far = on_from(n, s, t, v, passing, time);
-        let coming = read_entry(n, s, v, ways);
-        let going = read_entry(n, v, t, ways);
-        stops += visiting(near, far, all, coming, going);
+    for v in 0..trip.n {
+        stops += visiting(trip, ways, v);
     }
     stops
 }
 
 // Stores the number of routes, and the routes behind it.
-fn put_list(
-    n: usize,
-    s: usize,
-    t: usize,
-    cost: &[u32],
-    passing: &[u32],
-    time: &[u32],
-    ways: &[u32],
-    buffer: &mut [u8],
-)
-    requires { Listable n s t (this_layout cost.now passing.now) time.now ways.now × (length (route_list n (this_layout cost.now passing.now) s t) ≤ length buffer.old) }
-    ensures { buffer.new ≡ sets buffer.old 0 (route_list n (found_layout cost.now passing.now) s t) }
+fn put_list(trip: &Trip<'_>, ways: &[u32], buffer: &mut [u8])
+    requires { Lists trip.now ways.now × (length (list_of trip.now) ≤ length buffer.old) }
+    ensures { buffer.new ≡ sets buffer.old 0 (list_of trip.now) }
 {
-    buffer[0] = read_entry(n, s, t, ways) as u8;
-    put_routes(n, s, t, cost, passing, time, 1, buffer);
+    buffer[0] = read_entry(trip.n, trip.s, trip.t, ways) as u8;
+    put_routes(trip, 1, buffer);
 }
 
 // Stores the list where it fits. Else nothing is written.
-fn store(
-    n: usize,
-    s: usize,
-    t: usize,
-    cost: &[u32],
-    passing: &[u32],
-    time: &[u32],
-    ways: &[u32],
-    buffer: &mut [u8],
-) -> WriteAnswer
-    requires { Listable n s t (this_layout cost.now passing.now) time.now ways.now }
-    ensures { of_write result buffer.new ≡ stored (route_list n (found_layout cost.now passing.now) s t) buffer.old }
+fn store(trip: &Trip<'_>, ways: &[u32], buffer: &mut [u8]) -> Result<usize, Refusal>
+    requires { Lists trip.now ways.now }
+    ensures { of_write result buffer.new ≡ stored (list_of trip.now) buffer.old }
 {
-    let routes = read_entry(n, s, t, ways) as usize;
-    let length = 1 + routes + stops_in_all(n, s, t, passing, time, ways);
+    let routes = read_entry(trip.n, trip.s, trip.t, ways) as usize;
+    let length = 1 + routes + stops_in_all(trip, ways);
     if buffer.len() < length {
-        return WriteAnswer {
-            refusal: Refusal::ShortBuffer,
-            length: 0,
-        };
+        return Err(Refusal::ShortBuffer);
     }
-    put_list(n, s, t, cost, passing, time, ways, buffer);
-    WriteAnswer {
-        refusal: Refusal::Accepted,
-        length,
-    }
+    put_list(trip, ways, buffer);
+    Ok(length)
 }
 
 // The tests before the buffer's: those of an audit, 4 for a stop of n or more, while a stop to itself is allowed, and 14 for a crowded pair.
-fn admit(
-    n: u64,
-    s: u64,
-    t: u64,
-    cost: &[u32],
-    passing: &[u32],
-    time: &[u32],
-    ways: &[u32],
-    share: &[u64],
-    score: &[u64],
-) -> Refusal
-    ensures { Admits n s t (found cost.now passing.now time.now ways.now share.now score.now) result }
+fn admit(n: u64, s: u64, t: u64, lent: &Lent<'_>) -> Result<(), Refusal>
+    ensures { Admits n s t (seen lent.now) result }
 {
-    let verdict = audit(n, cost, passing, time, ways, share, score);
-    if !passes(verdict) {
-        return verdict;
+    audit(n, lent)?;
+    if n <= s || n <= t {
+        return Err(Refusal::BadStop);
     }
-    if n <= s {
-        return Refusal::BadStop;
-    }
-    if n <= t {
-        return Refusal::BadStop;
-    }
-    let routes = read_entry(n as usize, s as usize, t as usize, ways);
+    let routes = read_entry(n as usize, s as usize, t as usize, lent.ways);
     if Hall::WAYS < routes {
-        return Refusal::CrowdedPair;
+        return Err(Refusal::CrowdedPair);
     }
-    Refusal::Accepted
+    Ok(())
 }
 
 // Writes the quickest routes from s to t to the buffer and gives the length written.
@@ -127,24 +94,19 @@ pub fn list_routes(
     n: u64,
     s: u64,
     t: u64,
-    cost: &[u32],
-    passing: &[u32],
-    time: &[u32],
-    ways: &[u32],
-    share: &[u64],
-    score: &[u64],
+    lent: &Lent<'_>,
     buffer: &mut [u8],
-) -> WriteAnswer
-    ensures { Done (record { n = n; ask = list_routes s t buffer.old }) (found cost.now passing.now time.now ways.now share.now score.now) (found cost.now passing.now time.now ways.now share.now score.now) (of_write result buffer.new) }
+) -> Result<usize, Refusal>
+    ensures { Done (record { n = n; ask = list_routes s t buffer.old }) (seen lent.now) (seen lent.now) (of_write result buffer.new) }
 {
-    let verdict = admit(n, s, t, cost, passing, time, ways, share, score);
-    if !passes(verdict) {
-        return WriteAnswer {
-            refusal: verdict,
-            length: 0,
-        };
-    }
-    store(
-        n as usize, s as usize, t as usize, cost, passing, time, ways, buffer,
-    )
+    admit(n, s, t, lent)?;
+    let trip = Trip {
+        n: n as usize,
+        s: s as usize,
+        t: t as usize,
+        cost: lent.cost,
+        passing: lent.passing,
+        time: lent.time,
+    };
+    store(&trip, lent.ways, buffer)
 }

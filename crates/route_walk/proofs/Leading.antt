@@ -1,13 +1,16 @@
 -- The search for the next link that leads on. Assumes nothing.
-use Prim.Native.Nat.{ℕ, ◌+◌, ◌<◌, ◌≤◌}
+use Prim.Native.Nat.{ℕ, ◌<◌, ◌≤◌}
 use mathlib.Core.Path.{◌≡◌}
-use mathlib.Core.Bool.{Bool, false}
-use native.Mathlib.Decide.{ℕ_discrete}
+use mathlib.Core.Bool.{true, false}
 use native.Mathlib.Omega.{arith}
+use Rattle.std.specs.Prelude.{Option, None, Some}
+use Rattle.std.specs.Option.{MatchOption}
+use Rattle.route_walk.specs.declared.trip.Trip.{Trip}
+use Rattle.route_walk.specs.Walked.{leading, First}
 
--- a test that fails from a place on: at first nowhere, and at one place more
-pub none_yet : (p : ℕ → Bool) (from : ℕ) → (i : ℕ) → from ≤ i → i < from → p i ≡ false
-none_yet p from i a b = absurd (omega arith)
-
-pub none_more : (p : ℕ → Bool) (from y : ℕ) → ((i : ℕ) → from ≤ i → i < y → p i ≡ false) → p y ≡ false → (i : ℕ) → from ≤ i → i < y + 1 → p i ≡ false
-none_more p from y h e i a b = elim (ℕ_discrete i y) [ yes z ↦ rw z e | no z ↦ h i a (omega arith) ]
+-- the first number from a place on that passes the test is the next stop
+pub found : (h : Trip) (u from : ℕ) → from ≤ h.n → (r : Option ℕ) →
+    MatchOption r ((k : ℕ) → from ≤ k → k < h.n → leading h u k ≡ false) (λ i. (from ≤ i) × (i < h.n) × (leading h u i ≡ true) × ((k : ℕ) → from ≤ k → k < i → leading h u k ≡ false)) →
+    First h u from r
+found h u from le None m = record { after = le; most = omega arith; none = m; one = λ l. absurd (omega arith) }
+found h u from le (Some y) m = (record { after = m.0; most = omega (arith, m.1); none = m.3; one = λ l. m.2 }, m.1)

@@ -66,9 +66,9 @@ module _ {n s t : ℕ} {cost passing time : List ℕ} {k u : ℕ} {path : List �
   pub end-room : (at room' : ℕ) → u ≡ t → at + length (bytes_from n s t cost passing time k path u) ≤ room' → at + 1 + (k + 1) ≤ room'
   end-room at room' e h = omega (arith, ap length (end-bytes e), path-long)
 
-  pub end-wrote : {at r : ℕ} {b b' : List ℕ} → u ≡ t → r ≡ at + 1 + (k + 1) → b' ≡ sets b at ((k + 1) ∷ take (k + 1) (set path k u)) →
-      Wrote (bytes_from n s t cost passing time k path u) at r b b'
-  end-wrote e f g = rw (end-bytes e) (record { place = omega (arith, path-long, f); stored = g })
+  pub end-wrote : {at r : ℕ} {b b' : List ℕ} → u ≡ t → r ≡ at + 1 + length (take (k + 1) (set path k u)) →
+      b' ≡ sets b at (length (take (k + 1) (set path k u)) ∷ take (k + 1) (set path k u)) → Wrote (bytes_from n s t cost passing time k path u) at r b b'
+  end-wrote e f g = rw (end-bytes e) (record { place = omega (arith, path-long, f); stored = rw path-long at g })
 
   -- a path that keeps its first k + 1 stops from where u was put keeps its first k
   pub path-kept : (path' : List ℕ) → take (k + 1) path' ≡ take (k + 1) (set path k u) → take k path' ≡ take k path
@@ -86,9 +86,8 @@ module _ {n s t : ℕ} {cost passing time : List ℕ} {k u : ℕ} {path : List �
 
   module _ {from y : ℕ} (N : Next n s t cost passing time u from y) where
     -- the walk stands at the stop that a link leads on to, behind one stop more
-    pub stands-next : y ≢ n → Standing n s t cost passing time (k + 1) y path
-    stands-next e =
-        let inside : y < n = omega (arith, N.most) in
+    pub stands-next : y < n → Standing n s t cost passing time (k + 1) y path
+    stands-next inside =
         let (linked, exact, adds) = leads-true W n d f t u y (N.one inside) in
         let later : entry n time s u < entry n time s y = omega (arith, ltb-true 0 (W u y) linked) in
         record {

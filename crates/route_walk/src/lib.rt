@@ -1,14 +1,18 @@
 // The walk over the quickest routes to a stop: go on from a stop, take its next link, go on from there. Each route is stored as it is met.
 #![tactic(auto)]
 
+pub mod trip;
+
 ghost use Rattle.std.specs.Prelude.{◌≡◌, ◌∷◌, ◌+◌, ◌*◌, ◌^◌, ◌<◌, ◌≤◌, length, take};
 ghost use Rattle.std.proofs.lemmas.List.Edits.{sets};
 ghost use Rattle.book.specs.Hall.{entry};
-ghost use Rattle.route_walk.specs.Promise.{Ready, on_from, leads_on, Next, Standing, bytes_from, bytes_along, bytes_whole, Wrote};
+ghost use Rattle.route_walk.specs.Promise.{on_from, Wrote};
+ghost use Rattle.route_walk.specs.Walked.{leading, First, Stands, from_bytes, along_bytes, whole_bytes};
 
 use book::limits::Hall;
 use cells::places::read_entry;
 use links::numbers;
+use trip::Trip;
 
 // The time from y on to t on a route from s, with what it takes to pass y. At t nothing is left.
 pub fn on_from(n: usize, s: usize, t: usize, y: usize, passing: &[u32], time: &[u32]) -> u64
@@ -18,141 +22,109 @@ pub fn on_from(n: usize, s: usize, t: usize, y: usize, passing: &[u32], time: &[
     if y == t {
         return 0;
     }
-    numbers::stay(s, y, passing) as u64 + read_entry(n, y, t, time) as u64
+    u64::from(numbers::stay(s, y, passing)) + u64::from(read_entry(n, y, t, time))
 }
 
-// Whether the link u to y leads on to t by the times: in right tables, whether some quickest route from s to t uses it.
-fn leads(
-    n: usize,
-    s: usize,
-    t: usize,
-    u: usize,
-    y: usize,
-    cost: &[u32],
-    passing: &[u32],
-    time: &[u32],
-) -> bool
-    requires { Ready n s t cost.now passing.now time.now × (u < n) × (y < n) }
-    ensures { result ≡ leads_on n s t cost.now passing.now time.now u y }
-{
-    let link = read_entry(n, u, y, cost) as u64;
-    if link == 0 {
-        return false;
-    }
-    let near = read_entry(n, s, y, time) as u64;
-    let leaving = read_entry(n, s, u, time) as u64 + numbers::stay(s, u, passing) as u64;
-    if leaving + link != near {
-        return false;
-    }
-    near + on_from(n, s, t, y, passing, time) == read_entry(n, s, t, time) as u64
-}
-
-// The first stop, counted from `from`, to which such a link leads from u; n where there is none.
-fn next_stop(
-    n: usize,
-    s: usize,
-    t: usize,
-    u: usize,
-    from: usize,
-    cost: &[u32],
-    passing: &[u32],
-    time: &[u32],
-) -> usize
-    requires { Ready n s t cost.now passing.now time.now × (u < n) × (from ≤ n) }
-    ensures { Next n s t cost.now passing.now time.now u from result }
-{
-    for y in from..n {
-        if leads(n, s, t, u, y, cost, passing, time) {
-            return y;
+impl Trip<'_> {
+    // Whether the link u to y leads on to t by the times: in right tables, whether some quickest route from s to t uses it.
+    fn leads(&self, u: usize, y: usize) -> bool
+        requires { (u < self.now.n) × (y < self.now.n) }
+        ensures { result ≡ leading self.now u y }
+    {
+        let Trip {
+            n,
+            s,
+            t,
+            cost,
+            passing,
+            time,
+        } = *self;
+        let link = u64::from(read_entry(n, u, y, cost));
+        if link == 0 {
+            return false;
         }
+        let near = u64::from(read_entry(n, s, y, time));
+        let leaving = u64::from(read_entry(n, s, u, time))
+            + u64::from(numbers::stay(s, u, passing));
+        leaving + link == near
+            && near + on_from(n, s, t, y, passing, time) == u64::from(read_entry(n, s, t, time))
     }
-    n
+
+    // The first stop, counted from `from`, to which such a link leads from u.
+    fn next_stop(&self, u: usize, from: usize) -> Option<usize>
+        requires { (u < self.now.n) × (from ≤ self.now.n) }
+        ensures { First self.now u from result }
+    {
+        (from..self.n).find(|y| self.leads(u, *y))
+    }
 }
 
-// Stores the first k stops of a path behind their number. Says where the next route goes.
-fn put_route(k: usize, path: &[u8], at: usize, buffer: &mut [u8]) -> usize
-    requires { (k ≤ 64) × (k ≤ length path.now) × (at + 1 + k ≤ length buffer.old) }
-    ensures { (result ≡ at + 1 + k) × (buffer.new ≡ sets buffer.old at (k ∷ take k path.now)) }
+// Stores a route behind the number of its stops. Says where the next route goes. A loop, since a C host is asked for memcpy and memset
+// alone, and the library's copy of a slice needs memmove.
+fn put_route(route: &[u8], at: usize, buffer: &mut [u8]) -> usize
+    requires { (length route.now ≤ 64) × (at + 1 + length route.now ≤ length buffer.old) }
+    ensures { (result ≡ at + 1 + length route.now) × (buffer.new ≡ sets buffer.old at (length route.now ∷ route.now)) }
 {
-    buffer[at] = k as u8;
-    for i in 0..k {
-        buffer[at + 1 + i] = path[i];
+    buffer[at] = route.len() as u8;
+    for i in 0..route.len() {
+        buffer[at + 1 + i] = route[i];
     }
-    at + 1 + k
+    at + 1 + route.len()
 }
 
 // Goes on from u, behind the first k stops of the path: stores the route where u is the last stop, else takes the links from u. The
-// two functions end because stops left, n less k, and links left, n less `from`, make a number that falls.
+// two functions end because stops left, n less k, and links left, n less `from`, make a number that falls. The path is lent with its
+// k, since a walk that turns back then has nothing to take off it.
 #[cycle(from_stop_next_link)]
 fn from_stop(
-    n: usize,
-    s: usize,
-    t: usize,
+    trip: &Trip<'_>,
     k: usize,
     u: usize,
-    cost: &[u32],
-    passing: &[u32],
-    time: &[u32],
     path: &mut [u8],
     at: usize,
     buffer: &mut [u8],
 ) -> usize
-    requires standing { Standing n s t cost.now passing.now time.now k u path.old }
-    requires u_in_bounds { at + length (bytes_from n s t cost.now passing.now time.now k path.old u) ≤ length buffer.old }
-    ensures wrote { Wrote (bytes_from n s t cost.now passing.now time.now k path.old u) at result buffer.old buffer.new }
+    requires standing { Stands trip.now k u path.old }
+    requires u_in_bounds { at + length (from_bytes trip.now k path.old u) ≤ length buffer.old }
+    ensures wrote { Wrote (from_bytes trip.now k path.old u) at result buffer.old buffer.new }
     ensures path_unchanged { take k path.new ≡ take k path.old }
 {
     path[k] = u as u8;
-    if u == t {
-        return put_route(k + 1, path, at, buffer);
+    if u == trip.t {
+        return put_route(&path[..k + 1], at, buffer);
     }
-    next_link(n, s, t, k, u, 0, cost, passing, time, path, at, buffer)
+    next_link(trip, k, u, 0, path, at, buffer)
 }
 
 // Takes the links from u, the last of the first k + 1 stops of the path, to the stops counted from `from`.
 #[cycle(from_stop_next_link)]
 fn next_link(
-    n: usize,
-    s: usize,
-    t: usize,
+    trip: &Trip<'_>,
     k: usize,
     u: usize,
     from: usize,
-    cost: &[u32],
-    passing: &[u32],
-    time: &[u32],
     path: &mut [u8],
     at: usize,
     buffer: &mut [u8],
 ) -> usize
-    requires standing { Standing n s t cost.now passing.now time.now k u path.old × (from ≤ n) }
-    requires from_in_bounds { at + length (bytes_along n s t cost.now passing.now time.now k path.old u from) ≤ length buffer.old }
-    ensures wrote { Wrote (bytes_along n s t cost.now passing.now time.now k path.old u from) at result buffer.old buffer.new }
+    requires standing { Stands trip.now k u path.old × (from ≤ trip.now.n) }
+    requires from_in_bounds { at + length (along_bytes trip.now k path.old u from) ≤ length buffer.old }
+    ensures wrote { Wrote (along_bytes trip.now k path.old u from) at result buffer.old buffer.new }
     ensures path_unchanged { take (k + 1) path.new ≡ take (k + 1) path.old }
 {
-    let y = next_stop(n, s, t, u, from, cost, passing, time);
-    if y == n {
+    let Some(y) = trip.next_stop(u, from) else {
         return at;
-    }
-    let end = from_stop(n, s, t, k + 1, y, cost, passing, time, path, at, buffer);
-    next_link(n, s, t, k, u, y + 1, cost, passing, time, path, end, buffer)
+    };
+    let end = from_stop(trip, k + 1, y, path, at, buffer);
+    next_link(trip, k, u, y + 1, path, end, buffer)
 }
 
-// Stores the routes from s to t, one behind the other. Says where they end.
-pub fn put_routes(
-    n: usize,
-    s: usize,
-    t: usize,
-    cost: &[u32],
-    passing: &[u32],
-    time: &[u32],
-    at: usize,
-    buffer: &mut [u8],
-) -> usize
-    requires ready { Ready n s t cost.now passing.now time.now × (entry n time.now s s ≡ 0) }
-    requires time_in_bounds { at + length (bytes_whole n s t cost.now passing.now time.now) ≤ length buffer.old }
-    ensures { Wrote (bytes_whole n s t cost.now passing.now time.now) at result buffer.old buffer.new }
+// Stores the routes of a trip, one behind the other. Says where they end.
+pub fn put_routes(trip: &Trip<'_>, at: usize, buffer: &mut [u8]) -> usize
+    requires own { entry trip.now.n trip.now.time.now trip.now.s trip.now.s ≡ 0 }
+    requires time_in_bounds { at + length (whole_bytes trip.now) ≤ length buffer.old }
+    ensures { Wrote (whole_bytes trip.now) at result buffer.old buffer.new }
 {
     let mut path = [0u8; Hall::STOPS];
-    from_stop(n, s, t, 0, s, cost, passing, time, &mut path, at, buffer)
+    from_stop(trip, 0, trip.s, &mut path, at, buffer)
 }

@@ -1,12 +1,12 @@
 -- The loop that offers the links of a stop to the members of a word: what holds between two turns. Assumes nothing.
 use Prim.Native.Nat.{ℕ, ◌+◌, ◌*◌, ◌^◌, ◌<◌, ◌≤◌, min}
-use mathlib.Core.Path.{◌≡◌, refl, ap, ap₂, ◌∙◌}
+use mathlib.Core.Path.{◌≡◌, ap, ap₂, ◌∙◌}
 use mathlib.Core.List.{List}
 use native.Mathlib.Omega.{arith}
 use lib.ListN.{length, get_or, set, length-set}
 use lib.Seq.{get_or-set_same, get_or-set_other}
 use Rattle.routes.specs.Sets.{Popped}
-use Rattle.routes.proofs.Bits.{Rewriting, rewriting-starts, rewriting-goes, rewriting-ends}
+use Rattle.routes.proofs.Bits.{Rewriting, rewriting-goes, rewriting-ends}
 use Rattle.links.proofs.Flat.{flat-lt}
 use Rattle.links.specs.Promise.{via_of}
 use Rattle.row.specs.Steps.{Offered, Offers, joined_by}
@@ -17,9 +17,6 @@ module _ (n s b all : ℕ) (cost passing time pred : List ℕ) where
     pub room : length pred' ≡ length pred
     pub times : Rewriting all left (λ t. min (via_of n s b cost passing time t) (get_or time t 0)) (λ t. get_or time t 0) (λ t. get_or time' t 0)
     pub preds : Rewriting all left (λ t. joined_by (via_of n s b cost passing time t) (get_or time t 0) (2 ^ b) (get_or pred t 0)) (λ t. get_or pred t 0) (λ t. get_or pred' t 0)
-
-  pub relaxing-starts : Relaxing all time pred
-  relaxing-starts = record { timed = refl; room = refl; times = rewriting-starts all _ _; preds = rewriting-starts all _ _ }
 
   module _ (asked : Offers n s b all cost passing time pred) where
     -- the member taken stands in every table

@@ -20,7 +20,7 @@ pub record Owing (W : Costs) (n s k scale limit : ℕ) (ways pred order : List �
   pub fine : scale ≤ 2 ^ 32
   pub counted : length ways ≡ n
   pub room : length pred ≡ 64
-  pub queue : length order ≡ 64
+  pub queue : length order ≡ k
   pub counts : (t : ℕ) → t < n → get_or ways t 0 ≡ capped_ways W n s limit t
   pub behind : (t u : ℕ) → t < n → has (get_or pred t 0) u ≡ true → u < n
   pub linked : (t u : ℕ) → t < n → u < n → least_time W n s t ≢ mark → has (get_or pred t 0) u ≡ tight W (least_time W n s) u t

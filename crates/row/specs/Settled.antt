@@ -1,5 +1,5 @@
 -- What the settle loop asks and leaves: right times and ways, and the stops in the order in which they were settled. Assumes nothing.
-use Rattle.std.specs.Prelude.{ℕ, zero, suc, ◌+◌, ◌<◌, ◌≤◌, ◌*◌, ◌≡◌, Bool, true, false, cond, ◌||◌, ◌≢◌, List, eqb, length, get_or}
+use Rattle.std.specs.Prelude.{ℕ, zero, suc, ◌<◌, ◌≤◌, ◌≡◌, Bool, true, false, cond, ◌||◌, ◌≢◌, List, eqb, length, get_or}
 use Rattle.routes.specs.Route.{Costs, mark, has, least_time, capped_ways}
 use Rattle.routes.specs.Equations.{tight}
 
@@ -18,24 +18,11 @@ pub record Order (n k : ℕ) (D o : ℕ → ℕ) : Type 0 where
 abbrev pub seed : ℕ → ℕ → ℕ
 seed s t = cond (eqb t s) 1 0
 
--- what the settle loop asks of the hall
-pub record Ground (n s limit : ℕ) (cost passing out : List ℕ) : Type 0 where
-  pub source : s < n
-  pub most : n ≤ 64
-  pub square : length cost ≡ n * n
-  pub passable : length passing ≡ n
-  pub masks : length out ≡ 64
-  pub cheap : (u t : ℕ) → u < n → t < n → get_or cost (u * n + t) 0 ≤ 65535
-  pub brief : (u : ℕ) → u < n → get_or passing u 0 ≤ 65535
-  pub linked : (u t : ℕ) → u < n → has (get_or out u 0) t ≡ true → (t < n) × (0 < get_or cost (u * n + t) 0)
-  pub few : limit ≤ 22
-
 -- the lists before the first turn
-pub record Begun (n s : ℕ) (time ways pred order : List ℕ) : Type 0 where
+pub record Begun (n s : ℕ) (time ways pred : List ℕ) : Type 0 where
   pub timed : length time ≡ n
   pub counted : length ways ≡ n
   pub room : length pred ≡ 64
-  pub queue : length order ≡ 64
   pub times : (t : ℕ) → t < n → get_or time t 0 ≡ cond (eqb t s) 0 mark
   pub counts : (t : ℕ) → t < n → get_or ways t 0 ≡ seed s t
   pub preds : (t : ℕ) → get_or pred t 0 ≡ 0

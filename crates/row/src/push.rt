@@ -1,32 +1,22 @@
 // The shares of a row, from far stops to near ones.
-ghost use Rattle.std.specs.Prelude.{◌≡◌, ◌<◌};
+ghost use Rattle.std.specs.Prelude.{◌≡◌, ◌<◌, length};
 ghost use Rattle.routes.specs.Equations.{quotient};
 ghost use Rattle.row.specs.Paid.{Adds, Added, Waits, Paid};
 
-use links::sets;
+use links::measure::Measure;
+use links::sets::Stops;
 
-// Adds up the shares of the first k stops of an order. While a stop waits, its share holds what flows back to it.
-pub fn accumulate(
-    k: usize,
-    scale: u64,
-    limit: u32,
-    ways: &[u32],
-    pred: &[u64],
-    order: &[usize],
-    share: &mut [u64],
-)
-    requires { Waits k scale limit ways.now pred.now order.now share.old }
-    ensures { Paid k scale limit ways.now pred.now order.now share.new }
+// Adds up the shares of the stops of an order. While a stop waits, its share holds what flows back to it.
+pub fn accumulate(measure: Measure, ways: &[u32], pred: &[u64], order: &[usize], share: &mut [u64])
+    requires { Waits (length order.now) measure.scale measure.limit ways.now pred.now order.now share.old }
+    ensures { Paid (length order.now) measure.scale measure.limit ways.now pred.now order.now share.new }
 {
-    let mut i = k;
-    while 0 < i {
-        i -= 1;
-        let v = order[i];
+    for &v in order.iter().rev() {
         let w = ways[v];
         let flow = share[v];
-        let psi = quotient(scale, limit, w) + flow;
+        let psi = quotient(measure, w) + flow;
         push(pred[v], psi, share);
-        share[v] = (w as u64) * flow;
+        share[v] = u64::from(w) * flow;
     }
 }
 
@@ -35,24 +25,21 @@ fn push(to: u64, psi: u64, share: &mut [u64])
     requires { Adds to psi share.old }
     ensures { Added to psi share.old share.new }
 {
-    let mut left = to;
-    while left != 0 {
-        let u = sets::lowest(left);
+    for u in Stops(to) {
         share[u] += psi;
-        left = sets::rest(left);
     }
 }
 
 // What a stop of w ways itself adds: nothing where it is crowded.
-fn quotient(scale: u64, limit: u32, w: u32) -> u64
+fn quotient(measure: Measure, w: u32) -> u64
     requires { 0 < w }
-    ensures { result ≡ quotient limit scale w }
+    ensures { result ≡ quotient measure.limit measure.scale w }
 {
-    if limit < w {
+    if measure.limit < w {
         return 0;
     }
     if w == 1 {
-        return scale;
+        return measure.scale;
     }
-    scale / (w as u64)
+    measure.scale / u64::from(w)
 }

@@ -1,70 +1,61 @@
 // Dijkstra's algorithm: stops are settled from near to far.
-ghost use Rattle.std.specs.Prelude.{◌≡◌, cond, suc, ◌+◌, ◌<◌, min, ltb, length};
-ghost use Rattle.links.specs.Promise.{masked_from, Below};
-ghost use Rattle.row.specs.Settled.{Ground, Begun, Settled};
+ghost use Rattle.std.specs.Prelude.{◌≡◌, suc, ◌+◌, ◌<◌, ◌≤◌, min, length, [], MatchOption};
+ghost use Rattle.links.specs.Promise.{Below};
+ghost use Rattle.links.specs.Costs.{linked_from};
+ghost use Rattle.row.specs.Settled.{Begun, Settled};
 ghost use Rattle.row.specs.Steps.{Nearest, Tally, sum_over, joined_by, Offers, Offered};
 
-use links::{counts, numbers, sets};
+use arrayvec::ArrayVec;
+use links::counts;
+use links::measure::Measure;
+use links::network::Network;
+use links::numbers::{select, stay};
+use links::sets::{Stops, only};
 
-// Settles every stop that the source reaches, keeps their order, and answers how many there are.
+// Settles every stop that the source reaches, and keeps their order.
 pub fn settle(
-    n: usize,
+    network: Network,
     s: usize,
-    cost: &[u32],
-    passing: &[u32],
-    out: &[u64; 64],
-    limit: u32,
+    measure: Measure,
     time: &mut [u32],
     ways: &mut [u32],
     pred: &mut [u64],
-    order: &mut [usize],
-) -> usize
-    requires ground { Ground n s limit cost.now passing.now out.now }
-    requires begun { Begun n s time.old ways.old pred.old order.old }
-    ensures { Settled (masked_from n s cost.now passing.now out.now) n s limit time.new ways.new pred.new order.new result }
+    order: &mut ArrayVec<usize, 64>,
+)
+    requires source { s < network.n }
+    requires begun { Begun network.n s time.old ways.old pred.old }
+    requires empty { order.old.items ≡ [] }
+    ensures { Settled (linked_from network.entry s) network.entry.n s measure.limit time.new ways.new pred.new order.new.items (length order.new.items) }
 {
-    let mut k: usize = 0;
     let mut done: u64 = 0;
-    let mut frontier = sets::only(s);
-    while frontier != 0 {
-        let b = nearest(time, frontier);
-        let bit = sets::only(b);
-        order[k] = b;
-        k += 1;
-        done = done | bit;
-        let count = tally(limit, ways[b], pred[b], ways);
+    let mut frontier = only(s);
+    while let Some(b) = nearest(time, frontier) {
+        let bit = only(b);
+        order.push(b);
+        done |= bit;
+        let count = tally(measure.limit, ways[b], pred[b], ways);
         ways[b] = count;
-        let fresh = out[b] & !done;
-        relax(n, s, b, fresh, cost, passing, time, pred);
+        let fresh = network.out[b] & !done;
+        relax(network, s, b, fresh, time, pred);
         frontier = (frontier & !bit) | fresh;
     }
-    k
 }
 
-// The stop of least time in a frontier that is not empty.
-fn nearest(time: &[u32], frontier: u64) -> usize
-    requires frontier_nonzero { 0 < frontier }
-    requires below { Below (length time.now) frontier }
-    ensures { Nearest time.now frontier result }
+// The stop of least time in a frontier, nothing where it is empty. A loop, since min_by_key takes 8 % more instructions here, where
+// a fill has two fifths of its own.
+fn nearest(time: &[u32], frontier: u64) -> Option<usize>
+    requires { Below (length time.now) frontier }
+    ensures { MatchOption result (frontier ≡ 0) (Nearest time.now frontier) }
 {
-    let mut best = sets::lowest(frontier);
+    let mut stops = Stops(frontier);
+    let mut best = stops.next()?;
     let mut low = time[best];
-    let mut left = sets::rest(frontier);
-    while left != 0 {
-        let t = sets::lowest(left);
+    for t in stops {
         let at = time[t];
-        best = nearer(at, low, t, best);
-        low = numbers::min_u32(at, low);
-        left = sets::rest(left);
+        best = select(at < low, t, best);
+        low = low.min(at);
     }
-    best
-}
-
-// The stop t where its time is below that of the best so far.
-fn nearer(at: u32, low: u32, t: usize, best: usize) -> usize
-    ensures { result ≡ cond (ltb at low) t best }
-{
-    if at < low { t } else { best }
+    Some(best)
 }
 
 // The ways into a stop: a first count and those of its predecessors, counted in 16 bits up to limit + 1.
@@ -72,42 +63,27 @@ fn tally(limit: u32, first: u32, from: u64, ways: &[u32]) -> u32
     requires { Tally limit first from ways.now }
     ensures { result ≡ min (suc limit) (first + sum_over ways.now from) }
 {
-    let top = counts::of_entry(limit) + 1;
-    let mut count = counts::of_entry(first);
-    let mut left = from;
-    while left != 0 {
-        let u = sets::lowest(left);
-        count = numbers::min_u16(top, counts::add(count, counts::of_entry(ways[u])));
-        left = sets::rest(left);
+    let top = limit as u16 + 1;
+    let mut count = first as u16;
+    for u in Stops(from) {
+        count = counts::add(count, ways[u] as u16).min(top);
     }
-    counts::as_entry(count)
+    u32::from(count)
 }
 
 // Offers the links from b to the stops of a set, on routes from s.
-fn relax(
-    n: usize,
-    s: usize,
-    b: usize,
-    fresh: u64,
-    cost: &[u32],
-    passing: &[u32],
-    time: &mut [u32],
-    pred: &mut [u64],
-)
-    requires { Offers n s b fresh cost.now passing.now time.old pred.old }
-    ensures { Offered n s b fresh cost.now passing.now time.old pred.old time.new pred.new }
+fn relax(network: Network, s: usize, b: usize, fresh: u64, time: &mut [u32], pred: &mut [u64])
+    requires { Offers network.n s b fresh network.cost.now network.passing.now time.old pred.old }
+    ensures { Offered network.entry.n s b fresh network.entry.cost.now network.entry.passing.now time.old pred.old time.new pred.new }
 {
-    let bit = sets::only(b);
-    let base = b * n;
-    let at = time[b] + numbers::stay(s, b, passing);
-    let mut left = fresh;
-    while left != 0 {
-        let t = sets::lowest(left);
-        let via = at + cost[base + t];
+    let bit = only(b);
+    let base = b * network.n;
+    let at = time[b] + stay(s, b, network.passing);
+    for t in Stops(fresh) {
+        let via = at + network.cost[base + t];
         let old = time[t];
         pred[t] = predecessors(via, old, bit, pred[t]);
-        time[t] = numbers::min_u32(via, old);
-        left = sets::rest(left);
+        time[t] = old.min(via);
     }
 }
 

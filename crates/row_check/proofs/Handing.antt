@@ -67,9 +67,9 @@ single-handed n limit scale ways share some all m = record {
 }
 
 -- the source hands nothing back
-pub divided-ends : (n s limit scale : ℕ) (ways share : List ℕ) {old psi : List ℕ} → s < n → n ≤ 64 → length old ≡ 64 → Stored (λ t. handed_back limit scale (at ways t) (at share t)) n old psi
+pub divided-ends : (n s limit scale : ℕ) (ways share : List ℕ) {old psi : List ℕ} → s < n → length old ≡ n → Stored (λ t. handed_back limit scale (at ways t) (at share t)) n old psi
     → Divided n s limit scale ways share (set psi s 0)
-divided-ends n s limit scale ways share {old} {psi} l m r h = record {
+divided-ends n s limit scale ways share {old} {psi} l r h = record {
   room = length-set psi s 0 ∙ h.long ∙ r;
   back = λ t k. split (eqb t s)
       (λ e. ap (at (set psi s 0)) (eqb-true t s e) ∙ get_or-set_same psi s 0 0 (omega (arith, h.long)) ∙ sym (cond-true 0 _ e))

@@ -1,37 +1,31 @@
 -- Loops that test the stops one after another: what holds between two turns. Assumes nothing.
-use Prim.Native.Nat.{ℕ, ◌+◌, ◌*◌, ◌/◌, ◌^◌, ◌<◌, ◌≤◌}
+use Prim.Native.Nat.{ℕ, ◌+◌, ◌*◌, ◌^◌, ◌<◌, ◌≤◌}
 use mathlib.Core.Path.{◌≡◌, refl, ◌∙◌, ap}
 use mathlib.Core.Bool.{Bool, true, ◌&&◌, and-eq-true_iff}
-use mathlib.Core.List.{List}
-use native.Mathlib.Nat.{le_antisymm, mul-le-mul}
+use mathlib.Core.List.{List, [], ◌∷◌, ◌++◌}
+use native.Mathlib.Nat.{mul-le-mul}
 use native.Mathlib.Numerals.{add-one}
 use native.Mathlib.Omega.{arith}
-use lib.Bits.{bit_or, bit_xor, and_le_l, and_le_r, or_add_and, xor_add_and, xor_self}
-use lib.Dec.{eqb, ltb, leb}
-use borrow.Author.Tests.{eqb-true, eq-eqb, ltb-true, lt-ltb}
+use lib.Bits.{bit_or, and_le_l, and_le_r, or_add_and}
+use lib.Dec.{ltb}
+use lib.ListN.{length, get_or}
+use borrow.Author.Tests.{ltb-true, lt-ltb}
+use Rattle.std.specs.List.{sum, zip}
+use Rattle.std.proofs.lemmas.List.{length_push, get_or_default}
+use Rattle.std.proofs.lemmas.List.Sums.{sum_by-cons}
+use Rattle.std.proofs.lemmas.Nat.{or_lt}
+use Rattle.std.proofs.lemmas.Slice.Zip.{length-zip, get_or-zip}
 use Rattle.routes.specs.Route.{sum_to, all_to}
 use Rattle.routes.proofs.Booleans.{bool_iff}
-use Rattle.row_check.specs.Tests.{Pays, at, little, paid}
+use Rattle.routes.proofs.Counting.{sum_to-shift}
+use Rattle.row_check.specs.Tests.{Pays, at, little}
 
--- two words joined are 0 where both are, and two words differ in no digit where they are one
-join-zero : (a b : ℕ) → eqb (bit_or a b) 0 ≡ (eqb a 0 && eqb b 0)
-join-zero a b =
-    bool_iff (eqb (bit_or a b) 0) (eqb a 0 && eqb b 0)
-    (λ h. let z = eqb-true (bit_or a b) 0 h in (and-eq-true_iff (eqb a 0) _).1 (eq-eqb a 0 (omega (arith, or_add_and a b, and_le_l a b, and_le_r a b)), eq-eqb b 0 (omega (arith, or_add_and a b, and_le_l a b, and_le_r a b))))
-    (λ h. let (x, y) = (and-eq-true_iff (eqb a 0) _).0 h in eq-eqb (bit_or a b) 0 (omega (arith, or_add_and a b, eqb-true a 0 x, eqb-true b 0 y)))
-
-differ-zero : (a b : ℕ) → eqb (bit_xor a b) 0 ≡ eqb a b
-differ-zero a b =
-    bool_iff (eqb (bit_xor a b) 0) (eqb a b)
-    (λ h. eq-eqb a b (omega (arith, eqb-true (bit_xor a b) 0 h, xor_add_and a b, and_le_l a b, and_le_r a b)))
-    (λ h. eq-eqb (bit_xor a b) 0 (ap (λ x. bit_xor x b) (eqb-true a b h) ∙ xor_self b))
-
--- a number without digits above the fortieth
-shifted-zero : (x : ℕ) → eqb (x / 1099511627776) 0 ≡ ltb x (2 ^ 40)
-shifted-zero x =
-    bool_iff (eqb (x / 1099511627776) 0) (ltb x (2 ^ 40))
-    (λ h. lt-ltb x (2 ^ 40) (omega (arith, eqb-true (x / 1099511627776) 0 h)))
-    (λ h. eq-eqb (x / 1099511627776) 0 (omega (arith, ltb-true x (2 ^ 40) h)))
+-- two words joined are below 2^40 where both are
+small-joined : (a b : ℕ) → ltb (bit_or a b) (2 ^ 40) ≡ (ltb a (2 ^ 40) && ltb b (2 ^ 40))
+small-joined a b =
+    bool_iff (ltb (bit_or a b) (2 ^ 40)) (ltb a (2 ^ 40) && ltb b (2 ^ 40))
+    (λ h. let m = ltb-true (bit_or a b) (2 ^ 40) h in (and-eq-true_iff (ltb a (2 ^ 40)) _).1 (lt-ltb a (2 ^ 40) (omega (arith, or_add_and a b, and_le_r a b)), lt-ltb b (2 ^ 40) (omega (arith, or_add_and a b, and_le_l a b))))
+    (λ h. let (x, y) = (and-eq-true_iff (ltb a (2 ^ 40)) _).0 h in lt-ltb (bit_or a b) (2 ^ 40) (or_lt 40 a b (ltb-true a (2 ^ 40) x) (ltb-true b (2 ^ 40) y)))
 
 -- a loop that tests the stops one after another: ok says whether those below i of n pass
 pub record Testing (n i : ℕ) (p : ℕ → Bool) (ok : Bool) : Type 0 where
@@ -46,46 +40,30 @@ pub testing-goes : {n i : ℕ} {p : ℕ → Bool} {ok : Bool} → Testing n i p 
 unfolding all_to
 testing-goes {n} {i} {p} {ok} t l = record { within = omega arith; passes = rw add-one (ap (λ b. b && p i) t.passes) }
 
-pub testing-ends : {n i : ℕ} {p : ℕ → Bool} {ok : Bool} → Testing n i p ok → n ≤ i → ok ≡ all_to n p
-testing-ends {p = p} t l = t.passes ∙ ap (λ k. all_to k p) (le_antisymm t.within l)
+-- the same at a turn of an iterator that gave xs before it
+pub testing-turns : {A : Type 0} {n : ℕ} {p : ℕ → Bool} {ok passes : Bool} (xs : List A) (x : A) → Testing n (length xs) p ok → length xs < n → passes ≡ p (length xs)
+    → Testing n (length (xs ++ (x ∷ []))) p (ok && passes)
+testing-turns xs x t l e = rw (length_push xs x, e) (testing-goes t l)
 
--- the same with a word that is 0 as long as all pass
-pub record Joining (n i : ℕ) (p : ℕ → Bool) (word : ℕ) : Type 0 where
-  pub tested : Testing n i p (eqb word 0)
+pub light-goes : (share : List ℕ) (joined : ℕ) {n i : ℕ} → Testing n i (little share) (ltb joined (2 ^ 40)) → i < n → Testing n (i + 1) (little share) (ltb (bit_or joined (at share i)) (2 ^ 40))
+light-goes share joined {i = i} t l = rw (small-joined joined (at share i)) (testing-goes t l)
 
-pub joining-starts : (n : ℕ) (p : ℕ → Bool) → Joining n 0 p 0
-joining-starts n p = record { tested = testing-starts n p }
-
-joining-goes : {n i word : ℕ} {p : ℕ → Bool} (x : ℕ) → Joining n i p word → i < n → eqb x 0 ≡ p i → Joining n (i + 1) p (bit_or word x)
-joining-goes {word = word} x j l e = record { tested = rw (join-zero word x, e) (testing-goes j.tested l) }
-
-pub joining-ends : {n i word : ℕ} {p : ℕ → Bool} → Joining n i p word → n ≤ i → eqb word 0 ≡ all_to n p
-joining-ends j l = testing-ends j.tested l
-
-pub little-goes : (share : List ℕ) {n i word : ℕ} → Joining n i (little share) word → i < n → Joining n (i + 1) (little share) (bit_or word (at share i / 1099511627776))
-little-goes share {i = i} j l = joining-goes (at share i / 1099511627776) j l (shifted-zero (at share i))
-
--- a loop that adds up: total is the sum of the entries below i of n
-pub record Totalling (n i : ℕ) (list : List ℕ) (total : ℕ) : Type 0 where
-  pub within : i ≤ n
-  pub small : total ≤ i * 2 ^ 32
-  pub sum : total ≡ sum_to i (at list)
-
-pub totalling-starts : (n : ℕ) (list : List ℕ) → Totalling n 0 list 0
+-- a list's sum
+pub sum-listed : (l : List ℕ) → sum l ≡ sum_to (length l) (at l)
 unfolding sum_to
-totalling-starts n list = record { within = omega arith; small = omega arith; sum = refl }
+sum-listed [] = refl
+sum-listed (x ∷ l) = omega (arith, sum_by-cons (λ (y : ℕ). y) x l, sum-listed l, sum_to-shift (length l) (at (x ∷ l)))
 
-pub totalling-goes : {n i total x : ℕ} {list : List ℕ} → Totalling n i list total → i < n → x ≡ at list i → x < 2 ^ 32 → Totalling n (i + 1) list (total + x)
-unfolding sum_to
-totalling-goes {i = i} t l e b = record { within = omega arith; small = omega (arith, t.small); sum = rw add-one (omega (arith, t.sum, e)) }
+-- the entries that three lists of one length give in one turn
+pub three-at : (a b c : List ℕ) (i : ℕ) {x : (ℕ × ℕ) × ℕ} → length a ≡ length b → length c ≡ length b → (i < length (zip (zip a b) c)) × (x ≡ get_or (zip (zip a b) c) i x)
+    → (i < length b) × (x.0.0 ≡ at a i) × (x.0.1 ≡ at b i) × (x.1 ≡ at c i)
+three-at a b c i {x} e f (l, is) =
+    let k : i < length b = omega (arith, length-zip (zip a b) c, length-zip a b) in
+    let inner : i < length (zip a b) = omega (arith, length-zip a b) in
+    let outer : x ≡ (get_or (zip a b) i x.0, get_or c i x.1) = is ∙ get_or-zip (zip a b) c i x inner (omega arith) in
+    let first : x.0 ≡ (get_or a i x.0.0, get_or b i x.0.1) = ap (λ p. p.0) outer ∙ get_or-zip a b i x.0 (omega arith) k in
+    (k, ap (λ p. p.0) first ∙ get_or_default a i x.0.0 0 (omega arith), ap (λ p. p.1) first ∙ get_or_default b i x.0.1 0 k, ap (λ p. p.1) outer ∙ get_or_default c i x.1 0 (omega arith))
 
-pub totalling-ends : {n i total : ℕ} {list : List ℕ} (c : ℕ) → Totalling n i list total → n ≤ i → leb total c ≡ leb (sum_to n (at list)) c
-totalling-ends {list = list} c t l = ap (λ x. leb x c) (t.sum ∙ ap (λ k. sum_to k (at list)) (le_antisymm t.within l))
-
-module _ (ways share flow : List ℕ) where
-  pub paid-goes : {n i word w : ℕ} → Joining n i (paid ways share flow) word → i < n → w ≡ at ways i
-      → Joining n (i + 1) (paid ways share flow) (bit_or word (bit_xor (at share i) (w * at flow i)))
-  paid-goes {i = i} {w = w} j l e = joining-goes (bit_xor (at share i) (w * at flow i)) j l (rw e (differ-zero (at share i) (at ways i * at flow i)))
-
-  pub paid-fits : {n i : ℕ} → Pays n ways share flow → i < n → at ways i * at flow i < 2 ^ 64
-  paid-fits {i = i} p l = omega (arith, mul-le-mul (p.few i l) (p.light i l))
+-- ways times what flows back fits a word
+pub paid-fits : {n i : ℕ} {ways share flow : List ℕ} → Pays n ways share flow → i < n → at ways i * at flow i < 2 ^ 64
+paid-fits {i = i} p l = omega (arith, mul-le-mul (p.few i l) (p.light i l))

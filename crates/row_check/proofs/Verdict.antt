@@ -7,10 +7,11 @@ use mathlib.Core.List.{List}
 use native.Mathlib.Nat.{mul-le-mul_right}
 use native.Mathlib.Omega.{arith}
 use lib.Dec.{eqb}
-use lib.ListN.{length, replicate, get_or-replicate, length-replicate}
+use lib.ListN.{length, take}
+use lib.Seq.{length-take-le, get_or-take}
 use borrow.Author.Tests.{eqb-true, eqb-false, eq-eqb, leb-true, le-leb, lt-ltb, ltb-true, not-true}
 use Rattle.routes.specs.Route.{mark, Costs, sum_to, all_to, same, list_to, least_time, capped_ways, open_share}
-use Rattle.routes.specs.Equations.{outflow, Within, Counts}
+use Rattle.routes.specs.Equations.{inflow, outflow, Within, Counts}
 use Rattle.routes.proofs.Booleans.{both, bool_iff}
 use Rattle.routes.proofs.Sums.{all_true, all_of, cond-true, is_false, member-le}
 use Rattle.routes.proofs.Lists.{same_refl, same_true}
@@ -18,14 +19,17 @@ use Rattle.routes.proofs.Rows.{get_or-list_to, list_to-of}
 use Rattle.routes.proofs.Bits.{split}
 use Rattle.routes.proofs.Totals.{ways-in-all}
 use Rattle.routes.proofs.Tight.{SameTight, same-tight, inflow-cong, outflow-cong}
-use Rattle.links.specs.Promise.{Task, dearest, sum_bound, masked_from}
+use Rattle.links.specs.declared.network.Network.{Network}
+use Rattle.links.specs.declared.measure.Measure.{Measure}
+use Rattle.links.specs.Costs.{linked_from}
+use Rattle.links.specs.Promise.{dearest, sum_bound}
 use Rattle.links.proofs.Masked.{masked_small, masked-within}
 use Rattle.row_check.specs.Handed.{Divides, Divided, handed_back, handed_by}
 use Rattle.row_check.proofs.Checked.{Checked, checked-right, right-checked}
 use Rattle.row_check.proofs.Handing.{handed-le}
 use Rattle.row_check.specs.Promise.{is_row}
 use Rattle.row_check.specs.Tests.{Pays, agreed, at, at_source, few_in_all, little, paid, reached}
-use Rattle.row_check.specs.Tight.{Balance, Balanced}
+use Rattle.row_check.specs.Tight.{Balance, AllRelaxed, Balanced}
 
 -- parts of n entries each
 pub record Parts (n : ℕ) (time ways share : List ℕ) : Type 0 where
@@ -34,11 +38,11 @@ pub record Parts (n : ℕ) (time ways share : List ℕ) : Type 0 where
   pub shared : length share ≡ n
 
 -- what the tests before the walk over the links have told
-pub record Opened (n s top : ℕ) (time ways share : List ℕ) : Type 0 where
+pub record Opened (n s : ℕ) (time ways share : List ℕ) : Type 0 where
   pub source : at_source s time ways share ≡ true
-  pub reached : all_to n (reached top time ways) ≡ true
-  pub in_all : few_in_all n ways ≡ true
-  pub light : all_to n (little share) ≡ true
+  pub reached : all_to (length time) (reached mark time ways) ≡ true
+  pub in_all : few_in_all (length ways) ways ≡ true
+  pub light : all_to (length share) (little share) ≡ true
   pub bounded : (t : ℕ) → t < n → at time t ≤ mark
 
 -- rows that agree below n pass together
@@ -76,45 +80,45 @@ of-beq false false e = refl
 pub parts-of : {n : ℕ} (time ways share : List ℕ) → (length time ≡ n) × (length ways ≡ n) × (length share ≡ n) → Parts n time ways share
 parts-of time ways share p = record { timed = p.0; counted = p.1; shared = p.2 }
 
-module _ {n s : ℕ} {cost passing out : List ℕ} {scale limit top : ℕ} {time ways share : List ℕ} (T : Task n s cost passing out scale limit top) (P : Parts n time ways share) where
+module _ (N : Network) (M : Measure) {s : ℕ} {time ways share : List ℕ} (inside : s < N.n) (P : Parts N.n time ways share) where
   abbrev W : Costs
-  W = masked_from n s cost passing out
+  W = linked_from N s
 
   abbrev Passed : Type 0
-  Passed = Checked W n s limit scale (at time) (at ways) (at share)
+  Passed = Checked W N.n s M.limit M.scale (at time) (at ways) (at share)
 
   abbrev verdict : Bool
-  verdict = is_row W n s limit scale time ways share
+  verdict = is_row W N.n s M.limit M.scale time ways share
 
-  within : Within W n dearest
-  within = masked-within n s cost passing out T.cheap T.brief
+  within : Within W N.n dearest
+  within = masked-within N.n s N.cost.now N.passing.now N.out.now N.linked.cheap N.linked.brief
 
-  small : n * dearest < mark
-  small = masked_small n T.most
+  small : N.n * dearest < mark
+  small = masked_small N.n N.linked.most
 
   passed-row : Passed → verdict ≡ true
   unfolding is_row
   passed-row C =
-      let right = checked-right W n s dearest limit scale T.source within small T.whole (at time) (at ways) (at share) C in
+      let right = checked-right W N.n s dearest M.limit M.scale inside within small M.measured.whole (at time) (at ways) (at share) C in
       (and-eq-true_iff (same time _) _).1 (
         is time P.timed (λ t l. (right t l).0),
         (and-eq-true_iff (same ways _) _).1 (is ways P.counted (λ t l. (right t l).1), is share P.shared (λ t l. (right t l).2)),
       )
     where
-      is : (l : List ℕ) {f : ℕ → ℕ} → length l ≡ n → ((t : ℕ) → t < n → at l t ≡ f t) → same l (list_to n f) ≡ true
-      is l {f} e h = let is : l ≡ list_to n f = list_to-of n f 0 l e h in rw is (same_refl (list_to n f))
+      is : (l : List ℕ) {f : ℕ → ℕ} → length l ≡ N.n → ((t : ℕ) → t < N.n → at l t ≡ f t) → same l (list_to N.n f) ≡ true
+      is l {f} e h = let is : l ≡ list_to N.n f = list_to-of N.n f 0 l e h in rw is (same_refl (list_to N.n f))
 
   row-passed : verdict ≡ true → Passed
   unfolding is_row
   row-passed h =
       let (a, rest) = (and-eq-true_iff (same time _) _).0 h in
       let (b, c) = (and-eq-true_iff (same ways _) _).0 rest in
-      checked-cong W n s limit scale (least_time W n s) (capped_ways W n s limit) (open_share W n s limit scale) (at time) (at ways) (at share) T.source
-      (λ t l. (entry time (least_time W n s) a t l, entry ways (capped_ways W n s limit) b t l, entry share (open_share W n s limit scale) c t l))
-      (right-checked W n s dearest limit scale T.source within small T.whole (omega (arith, T.fine, mul-le-mul_right scale T.most)))
+      checked-cong W N.n s M.limit M.scale (least_time W N.n s) (capped_ways W N.n s M.limit) (open_share W N.n s M.limit M.scale) (at time) (at ways) (at share) inside
+      (λ t l. (entry time (least_time W N.n s) a t l, entry ways (capped_ways W N.n s M.limit) b t l, entry share (open_share W N.n s M.limit M.scale) c t l))
+      (right-checked W N.n s dearest M.limit M.scale inside within small M.measured.whole (omega (arith, M.measured.fine, mul-le-mul_right M.scale N.linked.most)))
     where
-      entry : (l : List ℕ) (f : ℕ → ℕ) → same l (list_to n f) ≡ true → (t : ℕ) → t < n → f t ≡ at l t
-      entry l f e t k = sym (get_or-list_to n f 0 t k) ∙ sym (ap (λ l. at l t) (same_true l (list_to n f) e))
+      entry : (l : List ℕ) (f : ℕ → ℕ) → same l (list_to N.n f) ≡ true → (t : ℕ) → t < N.n → f t ≡ at l t
+      entry l f e t k = sym (get_or-list_to N.n f 0 t k) ∙ sym (ap (λ l. at l t) (same_true l (list_to N.n f) e))
 
   -- a test that the row would pass has failed
   pub failed : {test answer : Bool} → (Passed → test ≡ true) → answer ≡ test → not answer ≡ true → false ≡ verdict
@@ -135,112 +139,138 @@ module _ {n s : ℕ} {cost passing out : List ℕ} {scale limit top : ℕ} {time
       (eqb-true _ 0 d, eqb-true _ 1 σ, eqb-true _ 0 δ)
 
   -- ways stand where times do
-  pub passed-reached : Passed → all_to n (reached top time ways) ≡ true
-  passed-reached C = all_of n _ (λ t l. beq-of (ap (eqb (at time t)) T.marked ∙ C.reached t l))
+  pub passed-reached : Passed → all_to (length time) (reached mark time ways) ≡ true
+  passed-reached C = rw P.timed (all_of N.n (reached mark time ways) (λ t l. beq-of (C.reached t l)))
 
-  reached-at : all_to n (reached top time ways) ≡ true → (t : ℕ) → t < n → eqb (at time t) top ≡ eqb (at ways t) 0
-  reached-at p t l = of-beq _ _ (all_true n _ p t l)
+  reached-at : all_to (length time) (reached mark time ways) ≡ true → (t : ℕ) → t < N.n → eqb (at time t) mark ≡ eqb (at ways t) 0
+  reached-at p t l = of-beq _ _ (all_true (length time) (reached mark time ways) p t (omega (arith, P.timed)))
 
   -- there are few ways in all, and at each stop
-  pub passed-in-all : Passed → few_in_all n ways ≡ true
-  passed-in-all C =
-      let counts : Counts W n s limit (at time) (at ways) = record { source = C.one; summed = C.summed } in
-      le-leb (sum_to n (at ways)) sum_bound (omega (arith, ways-in-all W n s limit (at time) (at ways) T.source T.few counts T.most C.bounded))
+  few : Passed → few_in_all N.n ways ≡ true
+  few C =
+      let counts : Counts W N.n s M.limit (at time) (at ways) = record { source = C.one; summed = C.summed } in
+      le-leb (sum_to N.n (at ways)) sum_bound (omega (arith, ways-in-all W N.n s M.limit (at time) (at ways) inside M.measured.few counts N.linked.most C.bounded))
 
-  few-at : few_in_all n ways ≡ true → (t : ℕ) → t < n → at ways t ≤ sum_bound
-  few-at p t l = omega (arith, leb-true (sum_to n (at ways)) sum_bound p, member-le n (at ways) t l)
+  pub passed-in-all : Passed → few_in_all (length ways) ways ≡ true
+  passed-in-all C = rw P.counted (few C)
 
-  pub passed-little : Passed → all_to n (little share) ≡ true
-  passed-little C = all_of n (little share) (λ t l. lt-ltb (at share t) (2 ^ 40) (C.little t l))
+  in-all : few_in_all (length ways) ways ≡ true → sum_to N.n (at ways) ≤ sum_bound
+  in-all p = leb-true (sum_to N.n (at ways)) sum_bound (rw P.counted at p)
 
-  little-at : all_to n (little share) ≡ true → (t : ℕ) → t < n → at share t < 2 ^ 40
-  little-at p t l = ltb-true (at share t) (2 ^ 40) (all_true n (little share) p t l)
+  few-at : few_in_all (length ways) ways ≡ true → (t : ℕ) → t < N.n → at ways t ≤ sum_bound
+  few-at p t l = omega (arith, in-all p, member-le N.n (at ways) t l)
+
+  pub passed-little : Passed → all_to (length share) (little share) ≡ true
+  passed-little C = rw P.shared (all_of N.n (little share) (λ t l. lt-ltb (at share t) (2 ^ 40) (C.little t l)))
+
+  little-at : all_to (length share) (little share) ≡ true → (t : ℕ) → t < N.n → at share t < 2 ^ 40
+  little-at p t l = ltb-true (at share t) (2 ^ 40) (all_true (length share) (little share) p t (omega (arith, P.shared)))
 
   -- within bounds, the divisions can be made
-  pub little-divides : {psi : List ℕ} → all_to n (little share) ≡ true → length psi ≡ 64 → (s < n) × Divides n limit scale ways share psi
+  pub little-divides : {psi : List ℕ} → all_to (length share) (little share) ≡ true → length psi ≡ N.n → (s < length share) × Divides (length share) M.scale ways share psi
   little-divides p e = (
-    T.source,
+    omega (arith, inside, P.shared),
     record {
-      some = T.some;
-      counted = P.counted;
+      counted = P.counted ∙ sym P.shared;
       undivided = record {
-        most = T.most;
-        shared = P.shared;
-        room = e;
-        fits = λ t l. omega (arith, little-at p t l, T.fine);
+        shared = refl;
+        room = e ∙ sym P.shared;
+        fits = λ t l. omega (arith, little-at p t (omega (arith, P.shared)), M.measured.fine);
       };
     },
   )
 
+  abbrev Handed : List ℕ → Type 0
+  Handed psi = Divided (length share) s M.limit M.scale ways share psi
+
+  handed : {psi : List ℕ} → Handed psi → (t : ℕ) → t < N.n → at psi t ≡ handed_by s M.limit M.scale (at ways) (at share) t
+  handed q t l = q.back t (omega (arith, P.shared))
+
   -- and what the sums ask holds
-  pub opened-balance : {psi : List ℕ} → Opened n s top time ways share → Divided n s limit scale ways share psi
-      → Balance n s cost passing out time ways psi (replicate 64 0) (replicate 64 0)
+  pub opened-balance : {psi : List ℕ} → Opened N.n s time ways share → Handed psi → Balance N.n s N.cost.now N.passing.now N.out.now time ways psi
   opened-balance {psi} O q = record {
-    most = T.most;
-    source = T.source;
-    square = T.square;
-    passable = T.passable;
-    masks = T.masks;
-    linked = T.linked;
+    most = N.linked.most;
+    source = inside;
+    square = N.linked.square;
+    passable = N.linked.passable;
+    masks = N.linked.masks;
+    linked = N.linked.linked;
     timed = P.timed;
     counted = P.counted;
     bounded = O.bounded;
-    room = q.room;
-    sums = length-replicate {A = ℕ} 64 0;
-    flows = length-replicate {A = ℕ} 64 0;
-    in_all = leb-true (sum_to n (at ways)) sum_bound O.in_all;
-    light = λ t l. omega (arith, q.back t l, under (eqb t s) (handed-le limit scale (at ways t) (at share t)), little-at O.light t l, T.fine);
-    quiet = q.back s T.source ∙ cond-true 0 _ (eq-eqb s s refl);
-    empty = λ t l. get_or-replicate {A = ℕ} 64 t 0 0 (omega (arith, T.most));
+    room = q.room ∙ P.shared;
+    in_all = in-all O.in_all;
+    light = λ t l. omega (arith, handed q t l, under (eqb t s) (handed-le M.limit M.scale (at ways t) (at share t)), little-at O.light t l, M.measured.fine);
+    quiet = handed q s inside ∙ cond-true 0 _ (eq-eqb s s refl);
   }
     where
       under : {x y : ℕ} (b : Bool) → x ≤ y → cond b 0 x ≤ y
-      under true h = omega arith
-      under false h = h
+      under true g = omega arith
+      under false g = g
 
-  same_back : {psi : List ℕ} → Divided n s limit scale ways share psi → (u : ℕ) → u < n
-      → outflow W n (at time) (at psi) u ≡ outflow W n (at time) (handed_by s limit scale (at ways) (at share)) u
-  same_back {psi} q u l = outflow-cong W (at time) W (at time) n (λ _ _ _ _. refl) (at psi) (handed_by s limit scale (at ways) (at share)) u l (λ w k _. q.back w k)
+  same_back : {psi : List ℕ} → Handed psi → (u : ℕ) → u < N.n
+      → outflow W N.n (at time) (at psi) u ≡ outflow W N.n (at time) (handed_by s M.limit M.scale (at ways) (at share)) u
+  same_back {psi} q u l = outflow-cong W (at time) W (at time) N.n (λ _ _ _ _. refl) (at psi) (handed_by s M.limit M.scale (at ways) (at share)) u l (λ w k _. handed q w k)
+
+  -- a link that improves a time refutes the row
+  pub improved : ¬ (AllRelaxed W N.n time) → false ≡ verdict
+  improved f = sym (is_false verdict (λ v. f (λ u l t k. (row-passed v).relaxed u t l k)))
 
   -- with what flows back, the shares can be compared
-  module _ {psi sum flow : List ℕ} {bad : Bool} (O : Opened n s top time ways share) (q : Divided n s limit scale ways share psi)
-      (r : Balanced n s cost passing out time ways psi sum flow bad) where
-    pub balanced-pays : Pays n ways share flow
-    balanced-pays = record { most = T.most; counted = P.counted; shared = P.shared; room = r.room; few = few-at O.in_all; light = r.light }
+  module _ {psi sum flow : List ℕ} (O : Opened N.n s time ways share) (q : Handed psi) (r : Balanced W N.n s time ways psi sum flow) where
+    abbrev back : List ℕ
+    back = take N.n flow
 
-    flow-is : (u : ℕ) → u < n → u ≢ s → at flow u ≡ outflow W n (at time) (handed_by s limit scale (at ways) (at share)) u
-    flow-is u l h = r.flows u l h ∙ same_back q u l
+    abbrev sums : List ℕ
+    sums = take N.n sum
 
-    -- a link that improves a time refutes the row
-    pub improved : bad ≡ true → false ≡ verdict
-    improved b = sym (is_false verdict (λ v. both b (r.good (λ u l t k. (row-passed v).relaxed u t l k))))
+    pub balanced-pays : Pays (length share) ways share back
+    balanced-pays = record {
+      counted = P.counted ∙ sym P.shared;
+      shared = refl;
+      flows = length-take-le N.n flow (omega (arith, r.room, N.linked.most)) ∙ sym P.shared;
+      few = λ t l. few-at O.in_all t (omega (arith, P.shared));
+      light = λ t l. let k : t < N.n = omega (arith, P.shared) in omega (arith, get_or-take N.n flow t 0 k, r.light t k);
+    }
 
-    passed-paid : Passed → all_to n (paid ways share flow) ≡ true
-    passed-paid C = all_of n (paid ways share flow) (λ u l. eq-eqb (at share u) (at ways u * at flow u) (split (eqb u s)
-        (λ e. rw (eqb-true u s e, C.none, r.none) (omega arith))
-        (λ e. let h = eqb-false u s e in C.shared u l h ∙ ap (λ x. at ways u * x) (sym (flow-is u l h)))))
+    back-is : (u : ℕ) → u < N.n → u ≢ s → at back u ≡ outflow W N.n (at time) (handed_by s M.limit M.scale (at ways) (at share)) u
+    back-is u l g = get_or-take N.n flow u 0 l ∙ r.flows u l g ∙ same_back q u l
 
-    passed-agreed : Passed → all_to n (agreed (limit + 1) ways sum) ≡ true
-    passed-agreed C = all_of n (agreed (limit + 1) ways sum) (λ t l. eq-eqb (at ways t) (min (limit + 1) (at sum t)) (split (eqb t s)
-        (λ e. rw (eqb-true t s e) (omega (arith, C.one, r.one, T.some)))
-        (λ e. omega (arith, C.summed t l (eqb-false t s e), r.summed t l (eqb-false t s e)))))
+    none : at back s ≡ 0
+    none = get_or-take N.n flow s 0 inside ∙ r.none
+
+    one : at sums s ≡ 1
+    one = get_or-take N.n sum s 0 inside ∙ r.one
+
+    summed : (t : ℕ) → t < N.n → t ≢ s → at sums t ≡ inflow W N.n (at time) (at ways) t
+    summed t l g = get_or-take N.n sum t 0 l ∙ r.summed t l g
+
+    passed-paid : Passed → all_to (length share) (paid ways share back) ≡ true
+    passed-paid C = rw P.shared (all_of N.n (paid ways share back) (λ u l. eq-eqb (at share u) (at ways u * at back u) (split (eqb u s)
+        (λ e. rw (eqb-true u s e, C.none, none) (omega arith))
+        (λ e. let g = eqb-false u s e in C.shared u l g ∙ ap (λ x. at ways u * x) (sym (back-is u l g))))))
+
+    passed-agreed : Passed → all_to (length ways) (agreed (M.limit + 1) ways sums) ≡ true
+    passed-agreed C = rw P.counted (all_of N.n (agreed (M.limit + 1) ways sums) (λ t l. eq-eqb (at ways t) (min (M.limit + 1) (at sums t)) (split (eqb t s)
+        (λ e. rw (eqb-true t s e) (omega (arith, C.one, one, M.measured.some)))
+        (λ e. omega (arith, C.summed t l (eqb-false t s e), summed t l (eqb-false t s e))))))
 
     -- where no link improves a time, shares and ways decide
-    pub decided : {paying agreeing : Bool} → bad ≡ false → paying ≡ all_to n (paid ways share flow) → agreeing ≡ all_to n (agreed (limit + 1) ways sum)
+    pub decided : {paying agreeing : Bool} → paying ≡ all_to (length share) (paid ways share back) → agreeing ≡ all_to (length ways) (agreed (M.limit + 1) ways sums)
         → (paying && agreeing) ≡ verdict
-    decided {paying} {agreeing} f ep ea = bool_iff (paying && agreeing) verdict
-        (λ both. let (p, a) = (and-eq-true_iff paying agreeing).0 both in row (all_true n (paid ways share flow) (sym ep ∙ p)) (all_true n (agreed (limit + 1) ways sum) (sym ea ∙ a)))
+    decided {paying} {agreeing} ep ea = bool_iff (paying && agreeing) verdict
+        (λ both. let (p, a) = (and-eq-true_iff paying agreeing).0 both in row (all_true (length share) (paid ways share back) (sym ep ∙ p)) (all_true (length ways) (agreed (M.limit + 1) ways sums) (sym ea ∙ a)))
         (λ e. let C = row-passed e in (and-eq-true_iff paying agreeing).1 (ep ∙ passed-paid C, ea ∙ passed-agreed C))
       where
-        row : ((u : ℕ) → u < n → paid ways share flow u ≡ true) → ((t : ℕ) → t < n → agreed (limit + 1) ways sum t ≡ true) → verdict ≡ true
+        row : ((u : ℕ) → u < length share → paid ways share back u ≡ true) → ((t : ℕ) → t < length ways → agreed (M.limit + 1) ways sums t ≡ true) → verdict ≡ true
         row p a = passed-row (record {
           source = (source-at O.source).0;
           one = (source-at O.source).1;
           none = (source-at O.source).2;
           bounded = O.bounded;
           little = little-at O.light;
-          reached = λ t l. sym (ap (eqb (at time t)) T.marked) ∙ reached-at O.reached t l;
-          relaxed = λ u t k l. r.relaxed f u k t l;
-          summed = λ t l g. omega (arith, eqb-true (at ways t) _ (a t l), r.summed t l g);
-          shared = λ u l g. eqb-true (at share u) _ (p u l) ∙ ap (λ x. at ways u * x) (flow-is u l g);
+          reached = reached-at O.reached;
+          relaxed = λ u t k l. r.relaxed u k t l;
+          summed = λ t l g. omega (arith, eqb-true (at ways t) _ (a t (omega (arith, P.counted))), summed t l g);
+          shared = λ u l g. eqb-true (at share u) _ (p u (omega (arith, P.shared))) ∙ ap (λ x. at ways u * x) (back-is u l g);
         })

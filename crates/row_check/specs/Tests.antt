@@ -38,9 +38,8 @@ agreed top ways sum t = eqb (at ways t) (min top (at sum t))
 
 -- what the comparison of the shares asks: no more ways than a row may have in all, and at most 64 × 2^41 that flows back
 pub record Pays (n : ℕ) (ways share flow : List ℕ) : Type 0 where
-  pub most : n ≤ 64
   pub counted : length ways ≡ n
   pub shared : length share ≡ n
-  pub room : length flow ≡ 64
+  pub flows : length flow ≡ n
   pub few : (t : ℕ) → t < n → at ways t ≤ sum_bound
   pub light : (t : ℕ) → t < n → at flow t ≤ 2 ^ 47

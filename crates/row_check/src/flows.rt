@@ -1,79 +1,66 @@
 // The links of a row: what flows back over the tight ones, the ways that they bring, and whether one improves a time.
-ghost use Rattle.row_check.specs.Tight.{Scan, Scans, Balance, Balanced};
+ghost use Rattle.std.specs.Prelude.{MatchOption};
+ghost use Rattle.links.specs.Costs.{linked_from};
+ghost use Rattle.row_check.specs.Tests.{at};
+ghost use Rattle.row_check.specs.Tight.{Kept, Scan, Scans, Balance, AllRelaxed, Balanced};
 
-use links::{counts, numbers, sets};
+use links::counts;
+use links::network::Network;
+use links::numbers::{select, stay};
+use links::sets::Stops;
 
-// What the links out of one stop give: the flow back over the tight ones, and whether one of them, or of the stops before,
-// improves a time.
+// What goes over the tight links of a row: the flow back to each stop, for the source 0, and the sum of its ways, for the source 1.
 #[derive(Drop)]
-struct Scanned {
-    flow: u64,
-    bad: bool,
+pub struct Tight {
+    pub back: [u64; 64],
+    pub sum: [u16; 64],
 }
 
-// Goes over the links from u to the stops of a set, on routes from s, and adds the ways of u at the ends of the tight ones.
+// Goes over the links from u, on routes from s, and adds the ways of u at the ends of the tight ones. Gives the flow back over
+// these, nothing where a link improves a time.
 // From a stop without a time no link is tight and none improves a time: its way is longer than the mark.
 fn scan(
-    n: usize,
+    network: Network,
     s: usize,
     u: usize,
-    links: u64,
-    cost: &[u32],
-    passing: &[u32],
     time: &[u32],
     ways: &[u32],
-    psi: &[u64; 64],
+    psi: &[u64],
     sum: &mut [u16; 64],
-    bad: bool,
-) -> Scanned
-    requires { Scan n s u links cost.now passing.now time.now ways.now psi.now sum.old }
-    ensures { Scans n s u links cost.now passing.now time.now ways.now psi.now sum.old sum.new bad result.flow result.bad }
+) -> Option<u64>
+    requires { Scan network.n s u (at network.out.now u) network.cost.now network.passing.now time.now ways.now psi.now sum.old }
+    ensures { let h = network.entry in let links = at h.out.now u in MatchOption result (¬ (Kept h.n s u links h.cost.now h.passing.now time.now)) (Scans h.n s u links h.cost.now h.passing.now time.now ways.now psi.now sum.old sum.new) }
 {
-    let base = u * n;
-    let end = base + n;
-    let row = &cost[base..end];
-    let near = numbers::wide(time[u]) + numbers::wide(numbers::stay(s, u, passing));
-    let more = counts::of_entry(ways[u]);
+    let base = u * network.n;
+    let end = base + network.n;
+    let row = &network.cost[base..end];
+    let near = u64::from(time[u]) + u64::from(stay(s, u, network.passing));
+    let more = ways[u] as u16;
     let mut flow: u64 = 0;
-    let mut worse = bad;
-    let mut left = links;
-    while left != 0 {
-        let t = sets::lowest(left);
-        let via = near + numbers::wide(row[t]);
-        let far = numbers::wide(time[t]);
+    let mut improves = false;
+    for t in Stops(network.out[u]) {
+        let via = near + u64::from(row[t]);
+        let far = u64::from(time[t]);
         let tight = via == far;
-        worse |= via < far;
+        improves |= via < far;
         // Off a tight link the flow is that of the source, psi[s], which is 0: it adds nothing.
-        flow += psi[numbers::select_usize(tight, t, s)];
-        sum[t] = counts::add(sum[t], numbers::select_u16(tight, more, 0));
-        left = sets::rest(left);
+        flow += psi[select(tight, t, s)];
+        sum[t] = counts::add(sum[t], select(tight, more, 0));
     }
-    Scanned { flow, bad: worse }
+    if improves { None } else { Some(flow) }
 }
 
-// Leaves what flows back to each stop and the sum of its ways, for the source 0 and 1. Says whether a link improves a time.
-pub fn flows(
-    n: usize,
-    s: usize,
-    cost: &[u32],
-    passing: &[u32],
-    out: &[u64; 64],
-    time: &[u32],
-    ways: &[u32],
-    psi: &[u64; 64],
-    sum: &mut [u16; 64],
-    flow: &mut [u64; 64],
-) -> bool
-    requires { Balance n s cost.now passing.now out.now time.now ways.now psi.now sum.old flow.old }
-    ensures { Balanced n s cost.now passing.now out.now time.now ways.now psi.now sum.new flow.new result }
+// What goes over the tight links of all stops, nothing where a link improves a time.
+pub fn flows(network: Network, s: usize, time: &[u32], ways: &[u32], psi: &[u64]) -> Option<Tight>
+    requires { Balance network.n s network.cost.now network.passing.now network.out.now time.now ways.now psi.now }
+    ensures { let W = linked_from network.entry s in MatchOption result (¬ (AllRelaxed W network.entry.n time.now)) (λ f. Balanced W network.entry.n s time.now ways.now psi.now f.sum f.back) }
 {
-    let mut bad = false;
-    for u in 0..n {
-        let r = scan(n, s, u, out[u], cost, passing, time, ways, psi, sum, bad);
-        flow[u] = r.flow;
-        bad = r.bad;
+    let mut back = [0u64; 64];
+    let mut sum = [0u16; 64];
+    for (u, flow) in back[..network.n].iter_mut().enumerate() {
+        *flow = scan(network, s, u, time, ways, psi, &mut sum)?;
     }
-    flow[s] = 0;
+    back[s] = 0;
     sum[s] = 1;
-    bad
+    Some(Tight { back, sum })
 }

@@ -5,74 +5,61 @@ ghost use Rattle.routes.specs.Stored.{Stored};
 ghost use Rattle.row_check.specs.Tests.{at, single};
 ghost use Rattle.row_check.specs.Handed.{handed_back, Undivides, Divides, Divided};
 
-use links::numbers;
+use links::measure::Measure;
 
 // What each stop hands back to each stop before it, the source nothing.
-pub fn hand_back(
-    n: usize,
-    s: usize,
-    limit: u32,
-    scale: u64,
-    ways: &[u32],
-    share: &[u64],
-    psi: &mut [u64; 64],
-)
-    requires { (s < n) × Divides n limit scale ways.now share.now psi.old }
-    ensures { Divided n s limit scale ways.now share.now psi.new }
+pub fn hand_back(s: usize, measure: Measure, ways: &[u32], share: &[u64], psi: &mut [u64])
+    requires { (s < length share.now) × Divides (length share.now) measure.scale ways.now share.now psi.old }
+    ensures { Divided (length share.now) s measure.limit measure.scale ways.now share.now psi.new }
 {
-    if all_single(n, ways) {
-        undivided(n, scale, share, psi);
+    if all_single(ways) {
+        undivided(measure.scale, share, psi);
     } else {
-        divided(n, limit, scale, ways, share, psi);
+        divided(measure, ways, share, psi);
     }
     psi[s] = 0;
 }
 
 // Every stop has one way.
-fn all_single(n: usize, ways: &[u32]) -> bool
-    requires { length ways.now ≡ n }
-    ensures { result ≡ all_to n (single ways.now) }
+fn all_single(ways: &[u32]) -> bool
+    ensures { result ≡ all_to (length ways.now) (single ways.now) }
 {
     let mut ok = true;
-    for t in 0..n {
-        ok &= ways[t] == 1;
+    for w in ways {
+        ok &= *w == 1;
     }
     ok
 }
 
 // The scale and each share.
-fn undivided(n: usize, scale: u64, share: &[u64], psi: &mut [u64; 64])
-    requires { Undivides n scale share.now psi.old }
-    ensures { Stored (λ t. scale + at share.now t) n psi.old psi.new }
+fn undivided(scale: u64, share: &[u64], psi: &mut [u64])
+    requires { Undivides (length share.now) scale share.now psi.old }
+    ensures { Stored (λ t. scale + at share.now t) (length share.now) psi.old psi.new }
 {
-    for t in 0..n {
-        psi[t] = scale + share[t];
+    for (t, x) in share.iter().enumerate() {
+        psi[t] = scale + *x;
     }
 }
 
 // The scale and each share, divided by the ways.
-fn divided(n: usize, limit: u32, scale: u64, ways: &[u32], share: &[u64], psi: &mut [u64; 64])
-    requires { Divides n limit scale ways.now share.now psi.old }
-    ensures { Stored (λ t. handed_back limit scale (at ways.now t) (at share.now t)) n psi.old psi.new }
+fn divided(measure: Measure, ways: &[u32], share: &[u64], psi: &mut [u64])
+    requires { Divides (length share.now) measure.scale ways.now share.now psi.old }
+    ensures { Stored (λ t. handed_back measure.limit measure.scale (at ways.now t) (at share.now t)) (length share.now) psi.old psi.new }
 {
-    for t in 0..n {
-        psi[t] = handed_back(limit, scale, ways[t], share[t]);
+    for (t, x) in share.iter().enumerate() {
+        psi[t] = handed_back(measure, ways[t], *x);
     }
 }
 
 // What a stop with w ways and the share x hands back to each stop before it.
-fn handed_back(limit: u32, scale: u64, w: u32, x: u64) -> u64
-    requires { (0 < limit) × (scale + x < 2 ^ 64) }
-    ensures { result ≡ handed_back limit scale w x }
+fn handed_back(measure: Measure, w: u32, x: u64) -> u64
+    requires { measure.scale + x < 2 ^ 64 }
+    ensures { result ≡ handed_back measure.limit measure.scale w x }
 {
-    if w == 1 {
-        return scale + x;
+    match w {
+        1 => measure.scale + x,
+        0 => 0,
+        _ if measure.limit < w => 0,
+        _ => (measure.scale + x) / u64::from(w),
     }
-    if w == 0 {
-        return 0;
-    }
-    if limit < w {
-        return 0;
-    }
-    (scale + x) / numbers::wide(w)
 }

@@ -5,48 +5,45 @@ mod flows;
 mod handed;
 mod tests;
 
-ghost use Rattle.std.specs.Prelude.{◌≡◌, length};
-ghost use Rattle.links.specs.Promise.{masked_from, Task};
+ghost use Rattle.std.specs.Prelude.{◌≡◌, ◌<◌, length};
+ghost use Rattle.links.specs.Costs.{linked_from};
 ghost use Rattle.row_check.specs.Promise.{is_row};
 
-// The three parts are the row of source s over the links of the masks and the passing times.
+use links::measure::Measure;
+use links::network::Network;
+
+// The three parts are the row of source s over the links of the network.
 pub fn check(
-    n: usize,
+    network: Network,
     s: usize,
-    cost: &[u32],
-    passing: &[u32],
-    out: &[u64; 64],
-    scale: u64,
-    limit: u32,
-    mark: u32,
+    measure: Measure,
     time: &[u32],
     ways: &[u32],
     share: &[u64],
 ) -> bool
-    requires task { Task n s cost.now passing.now out.now scale limit mark }
-    requires time_len { (length time.now ≡ n) × (length ways.now ≡ n) × (length share.now ≡ n) }
-    ensures { result ≡ is_row (masked_from n s cost.now passing.now out.now) n s limit scale time.now ways.now share.now }
+    requires source { s < network.n }
+    requires time_len { (length time.now ≡ network.n) × (length ways.now ≡ network.n) × (length share.now ≡ network.n) }
+    ensures { result ≡ is_row (linked_from network.entry s) network.entry.n s measure.limit measure.scale time.now ways.now share.now }
 {
-    if !tests::at_source(n, s, time, ways, share) {
+    if !tests::at_source(s, time, ways, share) {
         return false;
     }
-    if !tests::reached(n, mark, time, ways) {
+    if !tests::reached(time, ways) {
         return false;
     }
-    if !tests::few_in_all(n, ways) {
+    if !tests::few_in_all(ways) {
         return false;
     }
-    if !tests::light(n, share) {
+    if !tests::light(share) {
         return false;
     }
     let mut psi = [0u64; 64];
-    handed::hand_back(n, s, limit, scale, ways, share, &mut psi);
-    let mut sum = [0u16; 64];
-    let mut flow = [0u64; 64];
-    if flows::flows(
-        n, s, cost, passing, out, time, ways, &psi, &mut sum, &mut flow,
-    ) {
+    let psi = &mut psi[..network.n];
+    handed::hand_back(s, measure, ways, share, psi);
+    let Some(tight) = flows::flows(network, s, time, ways, psi) else {
         return false;
-    }
-    tests::balanced(n, ways, share, &flow) & tests::counted(n, limit + 1, ways, &sum)
+    };
+    let back = &tight.back[..network.n];
+    let sum = &tight.sum[..network.n];
+    tests::balanced(ways, share, back) && tests::counted(measure.limit + 1, ways, sum)
 }

@@ -1,15 +1,18 @@
 // The audit without the tests of n and of the lengths.
 ghost use Rattle.std.specs.Prelude.{◌≡◌, true, ◌<◌, ◌≤◌, length};
-ghost use Rattle.links.specs.Promise.{masked_from};
+ghost use Rattle.links.specs.Costs.{linked_from};
 ghost use Rattle.row_check.specs.Promise.{is_row};
 ghost use Rattle.book.specs.Hall.{sized, valid_passing, right as is_right};
-ghost use Rattle.book.specs.Contract.{these, found};
+ghost use Rattle.book.specs.Contract.{seen};
 ghost use Rattle.cells.specs.Promise.{Shares};
-ghost use Rattle.tables.specs.Promise.{part, Measure, Job, Square, no_shortcut, rows_pass, scores_pass};
+ghost use Rattle.tables.specs.Promise.{part, Square, no_shortcut, rows_pass, scores_pass};
 
+use book::lent::Lent;
 use book::limits::Hall;
 use cells::{costs, places, scores};
 use links::masks::useful_links;
+use links::measure::Measure;
+use links::network::Network;
 use row_check::check;
 
 // No link is cheaper than the time between its ends.
@@ -17,70 +20,37 @@ fn no_shortcut(cost: &[u32], time: &[u32]) -> bool
     requires { length cost.now ≡ length time.now }
     ensures { result ≡ no_shortcut cost.now time.now }
 {
-    let mut bad = false;
-    for i in 0..cost.len() {
-        bad |= (0 < cost[i]) & (cost[i] < time[i]);
+    let mut ok = true;
+    for (c, t) in cost.iter().zip(time) {
+        ok &= !((0 < *c) & (*c < *t));
     }
-    !bad
+    ok
 }
 
-// The three parts of source s are its row over the links of the masks.
-fn row_passes(
-    limit: u32,
-    scale: u64,
-    n: usize,
-    s: usize,
-    cost: &[u32],
-    passing: &[u32],
-    out: &[u64; 64],
-    time: &[u32],
-    ways: &[u32],
-    share: &[u64],
-) -> bool
-    requires measure { Measure limit scale }
-    requires job { Job n cost.now passing.now out.now }
-    requires square { Square n time.now ways.now share.now }
-    requires s_lt_n { s < n }
-    ensures { result ≡ is_row (masked_from n s cost.now passing.now out.now) n s limit scale (part n time.now s) (part n ways.now s) (part n share.now s) }
+// The three parts of source s are its row over the links of the network.
+fn row_passes(network: Network, s: usize, measure: Measure, t: &Lent<'_>) -> bool
+    requires square { Square network.n t.now.time.now t.now.ways.now t.now.share.now }
+    requires s_lt_n { s < network.n }
+    ensures { result ≡ is_row (linked_from network.entry s) network.entry.n s measure.limit measure.scale (part network.entry.n t.now.time.now s) (part network.entry.n t.now.ways.now s) (part network.entry.n t.now.share.now s) }
 {
-    let at = places::start(n, s);
-    let end = at + n;
+    let at = places::start(network.n, s);
+    let end = at + network.n;
     check(
-        n,
+        network,
         s,
-        cost,
-        passing,
-        out,
-        scale,
-        limit,
-        Hall::MARK,
-        &time[at..end],
-        &ways[at..end],
-        &share[at..end],
+        measure,
+        &t.time[at..end],
+        &t.ways[at..end],
+        &t.share[at..end],
     )
 }
 
-fn rows_pass(
-    limit: u32,
-    scale: u64,
-    n: usize,
-    cost: &[u32],
-    passing: &[u32],
-    out: &[u64; 64],
-    time: &[u32],
-    ways: &[u32],
-    share: &[u64],
-) -> bool
-    requires measure { Measure limit scale }
-    requires job { Job n cost.now passing.now out.now }
-    requires square { Square n time.now ways.now share.now }
-    ensures { result ≡ rows_pass limit scale n cost.now passing.now out.now time.now ways.now share.now }
+// The parts of every source are its row.
+fn rows_pass(network: Network, measure: Measure, t: &Lent<'_>) -> bool
+    requires { Square network.n t.now.time.now t.now.ways.now t.now.share.now }
+    ensures { result ≡ rows_pass measure.limit measure.scale network.entry.n (linked_from network.entry) t.now.time.now t.now.ways.now t.now.share.now }
 {
-    let mut good = true;
-    for s in 0..n {
-        good &= row_passes(limit, scale, n, s, cost, passing, out, time, ways, share);
-    }
-    good
+    (0..network.n).all(|s| row_passes(network, s, measure, t))
 }
 
 // Each score is the sum of its shares.
@@ -91,40 +61,31 @@ fn scores_pass(n: usize, share: &[u64], score: &[u64]) -> bool
 {
     let mut sum = [0u64; Hall::STOPS];
     scores::sum_scores(n, share, &mut sum);
-    let mut bad = false;
-    for v in 0..n {
-        bad |= score[v] != sum[v];
-    }
-    !bad
+    score.iter().zip(&sum).all(|(score, sum)| *score == *sum)
 }
 
 // The tables belong to their hall: valid costs, and what a work out fills for them.
-pub fn right(
-    limit: u32,
-    scale: u64,
-    n: usize,
-    cost: &[u32],
-    passing: &[u32],
-    time: &[u32],
-    ways: &[u32],
-    share: &[u64],
-    score: &[u64],
-) -> bool
-    requires measure { Measure limit scale }
-    requires n_nonzero { (0 < n) × (n ≤ 64) × (sized n (these cost.now passing.now time.now ways.now share.now score.now) ≡ true) }
-    requires passing_value { valid_passing n passing.now ≡ true }
-    ensures { result ≡ is_right scale limit n (found cost.now passing.now time.now ways.now share.now score.now) }
+pub fn right(measure: Measure, n: usize, t: &Lent<'_>) -> bool
+    requires n_nonzero { (0 < n) × (n ≤ 64) × (sized n (seen t.now) ≡ true) }
+    requires passing_value { valid_passing n t.now.passing.now ≡ true }
+    ensures { result ≡ is_right measure.scale measure.limit n (seen t.now) }
 {
-    if !costs::valid(n, cost) {
+    if !costs::valid(n, t.cost) {
         return false;
     }
-    if !no_shortcut(cost, time) {
+    if !no_shortcut(t.cost, t.time) {
         return false;
     }
     let mut out = [0u64; 64];
-    useful_links(n, cost, time, &mut out);
-    if !rows_pass(limit, scale, n, cost, passing, &out, time, ways, share) {
+    useful_links(n, t.cost, t.time, &mut out);
+    let network = Network {
+        n,
+        cost: t.cost,
+        passing: t.passing,
+        out: &out,
+    };
+    if !rows_pass(network, measure, t) {
         return false;
     }
-    scores_pass(n, share, score)
+    scores_pass(n, t.share, t.score)
 }

@@ -1,28 +1,24 @@
 // Which sources an edit touches, by one comparison a source on the times before it, and which links their rows need.
 #![tactic(auto)]
 
+pub mod link;
+
 ghost use Rattle.std.specs.Prelude.{◌≡◌, false, ◌*◌, ◌<◌, ◌≤◌, length};
-ghost use Rattle.routes.specs.Route.{set_of};
-ghost use Rattle.links.specs.Promise.{stay};
 ghost use Rattle.book.specs.Hall.{entry};
 ghost use Rattle.touch.specs.Promise.{rises, crosses, one_link, Found, Chosen};
 
+use book::lent::Lent;
 use book::limits::Hall;
 use cells::places;
+use link::Link;
 use links::masks::{all_links, useful_links};
-use links::numbers;
+use links::{numbers, sets};
 
 // Whether a link goes or its cost rises, not comes or falls.
 pub fn dearer(old: u32, new: u32) -> bool
     ensures { result ≡ rises old new }
 {
-    if new == 0 {
-        return true;
-    }
-    if old == 0 {
-        return false;
-    }
-    old < new
+    new == 0 || (0 < old && old < new)
 }
 
 // Whether a quickest route crosses a link from a stop at time near, which it takes `stay` to pass, to one at time far.
@@ -32,80 +28,47 @@ fn link_crosses(up: bool, old: u32, new: u32, near: u32, stay: u32, far: u32) ->
     if near == Hall::MARK {
         return false;
     }
+    let passed = u64::from(near) + u64::from(stay);
     if up {
-        return near as u64 + stay as u64 + old as u64 == far as u64;
+        passed + u64::from(old) == u64::from(far)
+    } else {
+        passed + u64::from(new) <= u64::from(far)
     }
-    near as u64 + stay as u64 + new as u64 <= far as u64
 }
 
-// The sources from which that holds.
-fn touched_sources(
-    n: usize,
-    u: usize,
-    v: usize,
-    up: bool,
-    old: u32,
-    new: u32,
-    passing: &[u32],
-    time: &[u32],
-) -> u64
-    requires { (n ≤ 64) × (length passing.now ≡ n) × (length time.now ≡ n * n) × (u < n) × (v < n) }
-    ensures { result ≡ set_of n (λ s. crosses up old new (entry n time.now s u) (stay s passing.now u) (entry n time.now s v)) }
+// The set of touched sources where a link gets another cost. Its callers prove that the tables have their lengths. The loop goes over
+// sources by number: s is the row, the start of the route and the bit.
+pub fn touched_set(link: Link, new: u32, t: &Lent<'_>) -> u64
+    requires { (length t.now.cost.now ≡ link.n * link.n) × (length t.now.passing.now ≡ link.n) × (length t.now.time.now ≡ link.n * link.n) }
+    ensures { Found link.n link.u link.v new t.now.cost.now t.now.passing.now t.now.time.now result }
 {
-    let mut set = 0u64;
+    let Link { n, u, v } = link;
+    let old = places::read_entry(n, u, v, t.cost);
+    let up = dearer(old, new);
+    let mut set = 0;
     for s in 0..n {
-        let at = places::start(n, s);
-        if link_crosses(
-            up,
-            old,
-            new,
-            time[at + u],
-            numbers::stay(s, u, passing),
-            time[at + v],
-        ) {
-            set |= 1u64 << (s as u64);
+        let near = places::read_entry(n, s, u, t.time);
+        let far = places::read_entry(n, s, v, t.time);
+        let stay = numbers::stay(s, u, t.passing);
+        let source = sets::only(s);
+        if link_crosses(up, old, new, near, stay, far) {
+            set |= source;
         }
     }
     set
 }
 
-// The set of touched sources where the link u to v gets another cost. Its callers prove that u and v are stops and that the tables have
-// their lengths.
-pub fn touched_set(
-    n: usize,
-    u: usize,
-    v: usize,
-    new: u32,
-    cost: &[u32],
-    passing: &[u32],
-    time: &[u32],
-) -> u64
-    requires { (n ≤ 64) × (length cost.now ≡ n * n) × (length passing.now ≡ n) × (length time.now ≡ n * n) × (u < n) × (v < n) }
-    ensures { Found n u v new cost.now passing.now time.now result }
-{
-    let old = places::read_entry(n, u, v, cost);
-    touched_sources(n, u, v, dearer(old, new), old, new, passing, time)
-}
-
-// All links, or those that cost the time between their ends and the link u to v. Its callers prove the same, and that there is such a link
-// where not all are asked for.
-pub fn choose_links(
-    n: usize,
-    u: usize,
-    v: usize,
-    all: bool,
-    cost: &[u32],
-    time: &[u32],
-    out: &mut [u64; 64],
-)
-    requires n_bound { (n ≤ 64) × (length cost.now ≡ n * n) × (length time.now ≡ n * n) × (u < n) × (v < n) }
-    requires v_nonzero { all ≡ false → 0 < entry n cost.now u v }
-    ensures { Chosen n (one_link u v) all cost.now time.now out.new }
+// All links, or those that cost the time between their ends and the edited link. Its callers prove that the tables have their lengths, and
+// that there is such a link where not all are asked for.
+pub fn choose_links(link: Link, all: bool, cost: &[u32], time: &[u32], out: &mut [u64; 64])
+    requires n_bound { (length cost.now ≡ link.n * link.n) × (length time.now ≡ link.n * link.n) }
+    requires v_nonzero { all ≡ false → 0 < entry link.n cost.now link.u link.v }
+    ensures { Chosen link.n (one_link link.u link.v) all cost.now time.now out.new }
 {
     if all {
-        all_links(n, cost, out);
-        return;
+        all_links(link.n, cost, out);
+    } else {
+        useful_links(link.n, cost, time, out);
+        out[link.u] |= sets::only(link.v);
     }
-    useful_links(n, cost, time, out);
-    out[u] |= 1u64 << (v as u64);
 }

@@ -1,151 +1,113 @@
 // Comparisons: each counts the entries that differ.
-use super::image::alike;
-use super::model;
-use super::model::{Book, Verdict};
-use super::outcome::{Outcome, costs};
-use super::places::BYTES;
+use super::costs::Costs;
+use super::hall_book::Book;
+use super::trial::Trial;
 use calls::answer::Answer;
-use calls::compare::{answers, differing, long, short, sum, unlike};
-use calls::entries::{at, at_long};
-use calls::tables::{Tables, cells, stops};
-use std::num::wrapping_add_u64;
+use calls::compare::{sum, unlike};
+use calls::tables::{self, Tables, cells};
 
-// The first entries of a table of 32 bits against those of one of 64.
+// The first entries of a table of 32 bits against those of one of 64, which the generic comparison of one type does not take.
 fn widened(a: &[u32], b: &[u64], count: usize) -> u64 {
-    let mut differ = 0;
-    for i in 0..count {
-        differ = wrapping_add_u64(differ, unlike(at(a, i), at_long(b, i)));
-    }
-    differ
+    let pairs = a.iter().zip(b).take(count);
+    pairs.filter(|(x, y)| u64::from(**x) != **y).count() as u64
 }
 
-// The tables of a hall of n stops against those of a book.
-pub fn with_book(n: u64, t: Tables, book: Book) -> u64 {
-    let k = cells(n);
-    sum(
-        short(&t.cost, &book.cost, k),
-        widened(&t.time, &book.time, k),
-        widened(&t.ways, &book.ways, k),
-        long(&t.share, &book.share, k),
-        long(&t.score, &book.score, stops(n)),
-    )
+// The tables of a hall against those of a book.
+pub fn with_book(tables: &Tables, book: &Book) -> u64 {
+    let stops = book.stops();
+    let count = cells(stops);
+    sum(&[
+        unlike(&tables.cost, &book.hall.costs.table, count),
+        widened(&tables.time, &book.time, count),
+        widened(&tables.ways, &book.ways, count),
+        unlike(&tables.share, &book.share, count),
+        unlike(&tables.score, &book.score, tables::stops(stops)),
+    ])
 }
 
-// The entries behind the first ones of two tables of 32 bits.
-fn short_behind(a: &[u32], b: &[u32], from: usize) -> u64 {
-    let mut differ = 0;
-    for i in from..a.len() {
-        differ = wrapping_add_u64(differ, unlike(at(a, i), at(b, i)));
-    }
-    differ
-}
-
-// The same of two tables of 64 bits.
-fn long_behind(a: &[u64], b: &[u64], from: usize) -> u64 {
-    let mut differ = 0;
-    for i in from..a.len() {
-        differ = wrapping_add_u64(differ, unlike(at_long(a, i), at_long(b, i)));
-    }
-    differ
+// The entries behind the first ones of two tables.
+fn unlike_behind<T: PartialEq>(a: &[T], b: &[T], from: usize) -> u64 {
+    a.iter().zip(b).skip(from).filter(|(x, y)| x != y).count() as u64
 }
 
 // What five tables have behind the entries of a hall of n stops, against five others.
-fn behind(n: u64, t: Tables, o: Tables) -> u64 {
-    let k = cells(n);
-    sum(
-        short_behind(&t.cost, &o.cost, k),
-        short_behind(&t.time, &o.time, k),
-        short_behind(&t.ways, &o.ways, k),
-        long_behind(&t.share, &o.share, k),
-        long_behind(&t.score, &o.score, stops(n)),
-    )
+fn behind(n: u64, tables: &Tables, others: &Tables) -> u64 {
+    let count = cells(n);
+    sum(&[
+        unlike_behind(&tables.cost, &others.cost, count),
+        unlike_behind(&tables.time, &others.time, count),
+        unlike_behind(&tables.ways, &others.ways, count),
+        unlike_behind(&tables.share, &others.share, count),
+        unlike_behind(&tables.score, &others.score, tables::stops(n)),
+    ])
 }
 
 // Whether tables are not those of their own costs and passing times, or the costs are not valid; `seen` is the book of both.
-pub fn wrong(n: u64, t: Tables, seen: Book) -> bool {
-    if model::bad_costs(n, &seen.cost) {
-        return true;
-    }
-    with_book(n, t, seen) != 0
+pub fn are_wrong(tables: &Tables, seen: &Book) -> bool {
+    seen.hall.costs.are_bad() || with_book(tables, seen) != 0
 }
 
 // By the old numbers, as the moving call tests them: no pair has more ways than their limit.
-pub fn wrong_before(n: u64, t: Tables) -> bool {
-    let seen = model::old_book_of(n, costs(t));
-    if model::above(n, &seen.ways, model::OLD_WAYS) {
-        return true;
-    }
-    wrong(n, t, seen)
+pub fn are_wrong_before(stops: u64, tables: &Tables) -> bool {
+    let seen = Book::of_old(Costs::of(stops, tables));
+    seen.is_crowded_before() || are_wrong(tables, &seen)
 }
 
-// The bit of the row that has entry i, where that differs.
-fn row_bit(n: u64, i: usize, differ: u64) -> u64 {
+// The set of the first n rows that differ in two tables of a hall of n stops.
+fn unlike_rows<T: PartialEq>(n: u64, a: &[T], b: &[T]) -> u64 {
+    let n = tables::stops(n);
     if n == 0 {
         return 0;
     }
-    let s = i as u64 / n;
-    if 63 < s {
-        return 0;
-    }
-    differ << s
-}
-
-// The set of the rows that differ in two tables of 32 bits.
-fn short_rows(n: u64, a: &[u32], b: &[u32]) -> u64 {
     let mut set = 0u64;
-    for i in 0..cells(n) {
-        set |= row_bit(n, i, unlike(at(a, i), at(b, i)));
-    }
-    set
-}
-
-// The same of two tables of 64 bits.
-fn long_rows(n: u64, a: &[u64], b: &[u64]) -> u64 {
-    let mut set = 0u64;
-    for i in 0..cells(n) {
-        set |= row_bit(n, i, unlike(at_long(a, i), at_long(b, i)));
+    for (s, (x, y)) in a.chunks(n).zip(b.chunks(n)).take(n).enumerate() {
+        if x != y && s < 64 {
+            set |= 1 << s;
+        }
     }
     set
 }
 
 // The set of the sources whose row of times, ways and shares differs.
-pub fn rows(n: u64, t: Tables, o: Tables) -> u64 {
-    short_rows(n, &t.time, &o.time)
-        | short_rows(n, &t.ways, &o.ways)
-        | long_rows(n, &t.share, &o.share)
-}
-
-// What a call answers and leaves in the buffer.
-fn said(outcome: Outcome, verdict: Verdict) -> u64 {
-    let answer = outcome.answer;
-    let right = verdict.answer;
-    let buffers = !alike(&outcome.bytes, &verdict.bytes, BYTES) as u64;
-    wrapping_add_u64(answers(answer, right), buffers)
+pub fn rows(n: u64, tables: &Tables, others: &Tables) -> u64 {
+    unlike_rows(n, &tables.time, &others.time)
+        | unlike_rows(n, &tables.ways, &others.ways)
+        | unlike_rows(n, &tables.share, &others.share)
 }
 
 // What an edit left that was to reverse another one, and its answer, against the tables before the other one and its answer.
-pub fn reversed(former: Tables, undone: Answer, left: Tables, answer: Answer) -> u64 {
-    sum(
-        differing(left, former),
-        unlike(answer.refusal, 0),
-        unlike(answer.touched, undone.touched),
-        unlike(answer.rows, undone.rows),
-        0,
-    )
+pub fn reversed(former: &Tables, undone: &Answer, left: &Tables, answer: &Answer) -> u64 {
+    sum(&[
+        left.unlike(former),
+        u64::from(answer.refusal.is_some()),
+        u64::from(answer.touched != undone.touched),
+        u64::from(answer.rows != undone.rows),
+    ])
 }
 
-// An outcome against its verdict. An accepted call leaves the tables and the passing times of the book, and what stands behind
-// them; a refused one leaves all as it was.
-pub fn differences(n: u64, former: Tables, outcome: Outcome, verdict: Verdict) -> u64 {
-    let left = outcome.tables;
-    let book = verdict.book;
-    let right = verdict.answer;
-    let tables = if right.refusal == 0 {
-        let passing = short(&left.passing, &book.passing, stops(n));
-        let front = wrapping_add_u64(passing, with_book(n, left, book));
-        wrapping_add_u64(front, behind(n, left, former))
+// An accepted call leaves the tables and the passing times of the book, and what stood behind them.
+fn with_accepted(trial: &Trial) -> u64 {
+    let book = &trial.verdict.book;
+    let left = trial.left;
+    let stops = book.stops();
+    let times = &book.hall.passing.times;
+    sum(&[
+        unlike(&left.passing, times, tables::stops(stops)),
+        with_book(left, book),
+        behind(stops, left, trial.former),
+    ])
+}
+
+// What a call left and said, against its verdict. A refused call leaves all as it was.
+pub fn differences(trial: &Trial) -> u64 {
+    let outcome = trial.outcome;
+    let verdict = trial.verdict;
+    let tables = if verdict.is_accepted() {
+        with_accepted(trial)
     } else {
-        differing(left, former)
+        trial.left.unlike(trial.former)
     };
-    wrapping_add_u64(tables, said(outcome, verdict))
+    let answers = outcome.answer.unlike(&verdict.answer);
+    let buffers = u64::from(outcome.bytes != verdict.bytes);
+    sum(&[tables, answers, buffers])
 }

@@ -1,138 +1,112 @@
 // Counts what crowded pairs do.
 use super::compare::rows;
-use super::model::{Book, Verdict, WAYS, crowded};
-use super::outcome::Ask;
-use super::places::CELLS;
-use super::tally::{
-    ALIKE, CROWDED, CROWDED_AND_SHORT, CROWDED_EDITS, CROWDED_MOVES, MADE, PASSING, PAST_CROWDED,
-    REVERSED_CROWDED, ROOM, UNCROWDED_EDITS, UNMADE, add,
-};
-use calls::call::is_edit;
-use calls::entries::{at_long, wide};
-use calls::tables::{Tables, cells, place};
-use std::num::wrapping_add_u64;
+use super::count::Count;
+use super::hall_book::{Book, is_crowded};
+use super::pair::Pair;
+use super::tally::Tally;
+use super::trial::Trial;
+use book::Refusal;
+use calls::answer::Answer;
+use calls::call::Act;
+use calls::tables::cells;
 
-fn is_crowded(ways: u64) -> bool {
-    wide(WAYS) < ways
-}
-
-// Whether a pair is crowded by one table of ways and not by another.
-fn some_alone(n: u64, a: &[u64; CELLS], b: &[u64; CELLS]) -> bool {
-    let mut some = false;
-    for i in 0..cells(n) {
-        some |= is_crowded(at_long(a, i)) & !is_crowded(at_long(b, i));
-    }
-    some
+// Whether a pair is crowded in one book and not in another.
+fn some_alone(book: &Book, other: &Book) -> bool {
+    book.ways
+        .iter()
+        .zip(&other.ways)
+        .take(cells(book.stops()))
+        .any(|(ways, others)| is_crowded(*ways) && !is_crowded(*others))
 }
 
 // Counts an accepted edit by whether there is a crowded pair before or after it, and by whether it made one crowded, or uncrowded.
-fn note_pairs(tally: &mut [u64; ROOM], stops: u64, before: Book, after: Book, either: bool) {
-    add(tally, CROWDED_EDITS, either as u64);
-    add(tally, UNCROWDED_EDITS, !either as u64);
-    let made = some_alone(stops, &after.ways, &before.ways);
-    let unmade = some_alone(stops, &before.ways, &after.ways);
-    add(tally, MADE, made as u64);
-    add(tally, UNMADE, unmade as u64);
+fn note_pairs(tally: &mut Tally, before: &Book, after: &Book, either: bool) {
+    let count = if either {
+        Count::CrowdedEdits
+    } else {
+        Count::UncrowdedEdits
+    };
+    tally.add(count, 1);
+    tally.add_if(Count::Made, some_alone(after, before));
+    tally.add_if(Count::Unmade, some_alone(before, after));
 }
 
 // Counts the touched rows of an accepted edit that look the same, and says how many rows are not as the rule has them: an untouched
 // row that changed or, where no pair is crowded before or after, a touched one that did not.
-fn note_rows(tally: &mut [u64; ROOM], touched: u64, changed: u64, either: bool) -> u64 {
+fn note_rows(tally: &mut Tally, touched: u64, changed: u64, either: bool) -> u64 {
     let alike = lister::number(touched & !changed);
     let strayed = lister::number(changed & !touched);
     if either {
-        add(tally, ALIKE, alike);
+        tally.add(Count::Alike, alike);
         return strayed;
     }
-    wrapping_add_u64(strayed, alike)
+    strayed.wrapping_add(alike)
 }
 
-// Counts an accepted edit, and says how many of its rows are not as they should be.
-fn note_edit(
-    tally: &mut [u64; ROOM],
-    stops: u64,
-    before: Book,
-    after: Book,
-    touched: u64,
-    changed: u64,
-) -> u64 {
-    let either = crowded(stops, before) | crowded(stops, after);
-    note_pairs(tally, stops, before, after, either);
-    note_rows(tally, touched, changed, either)
+// Whether a pair is crowded before a call or after it.
+fn is_crowded_at_ends(before: &Book, after: &Book) -> bool {
+    before.is_crowded() || after.is_crowded()
 }
 
-// Counts an accepted call by the hall that it left.
-pub fn note(
-    tally: &mut [u64; ROOM],
-    call: u64,
-    stops: u64,
-    before: Book,
-    verdict: Verdict,
-    former: Tables,
-    left: Tables,
-) -> u64 {
-    let answer = verdict.answer;
-    let after = verdict.book;
-    add(tally, CROWDED, crowded(stops, after) as u64);
-    if !is_edit(call) {
+// Counts an accepted call by the hall that it left, and says how many of the rows of an edit are not as they should be.
+pub fn note(tally: &mut Tally, trial: &Trial) -> u64 {
+    let before = trial.case.book;
+    let verdict = trial.verdict;
+    let after = &verdict.book;
+    tally.add_if(Count::Crowded, after.is_crowded());
+    if !matches!(trial.case.ask.call.act, Act::Edit(_)) {
         return 0;
     }
-    note_edit(
-        tally,
-        stops,
-        before,
-        after,
-        answer.touched,
-        rows(stops, former, left),
-    )
+    let either = is_crowded_at_ends(before, after);
+    note_pairs(tally, before, after, either);
+    let changed = rows(before.stops(), trial.former, trial.left);
+    note_rows(tally, verdict.answer.touched, changed, either)
 }
 
-// Where a table has the entry of two stops that the hall has not both, if they are cut to 32 bits and not tested: one behind the
-// end of a row stands in the next.
-fn pointed(n: u64, s: u64, t: u64) -> usize {
-    let row = s % 4294967296;
-    let column = t % 4294967296;
-    if n <= column {
-        return place(n, row + 1, column - n);
+// The stops of the entry at which a route list points, if its stops are cut to 32 bits and not tested: an entry behind the end of
+// a row stands in the next.
+fn pointed(stops: u64, ends: Pair) -> Pair {
+    let row = ends.u % 4294967296;
+    let column = ends.v % 4294967296;
+    if stops <= column {
+        return Pair::new(row + 1, column - stops);
     }
-    place(n, row, column)
+    Pair::new(row, column)
 }
 
 // Counts a route list that is refused with 14 where its buffer is too short too, or with 4 where the entry is that of a crowded pair.
 // The list would have so many bytes.
-pub fn note_routes(
-    tally: &mut [u64; ROOM],
-    ask: Ask,
-    stops: u64,
-    book: Book,
-    refusal: u64,
-    bytes: usize,
-) {
-    let call = ask.call;
-    let entry = at_long(&book.ways, pointed(stops, call.u, call.v));
-    let short = (refusal == 14) & (ask.length < bytes);
-    let past = (refusal == 4) & is_crowded(entry);
-    add(tally, CROWDED_AND_SHORT, short as u64);
-    add(tally, PAST_CROWDED, past as u64);
+pub fn note_routes(tally: &mut Tally, trial: &Trial, ends: Pair, length: usize) {
+    let book = trial.case.book;
+    match trial.outcome.answer.refusal {
+        Some(Refusal::CrowdedPair) => {
+            let short = trial.case.ask.buffer.length < length;
+            tally.add_if(Count::CrowdedAndShort, short);
+        }
+        Some(Refusal::BadStop) => {
+            let ways = book.ways_of(pointed(book.stops(), ends));
+            tally.add_if(Count::PastCrowded, is_crowded(ways));
+        }
+        _ => {}
+    }
 }
 
 // Counts an accepted list with a crowded pair in passing, but neither before nor after.
-pub fn note_list(tally: &mut [u64; ROOM], stops: u64, before: Book, verdict: Verdict) {
-    let after = verdict.book;
-    let ends = crowded(stops, before) | crowded(stops, after);
-    if verdict.answer.refusal == 0 {
-        add(tally, PASSING, (verdict.passed & !ends) as u64);
+pub fn note_list(tally: &mut Tally, trial: &Trial) {
+    let verdict = trial.verdict;
+    if verdict.is_accepted() {
+        let ends = is_crowded_at_ends(trial.case.book, &verdict.book);
+        tally.add_if(Count::CrowdedInPassing, verdict.passed && !ends);
     }
 }
 
 // Counts a moving call on right tables with a crowded pair.
-pub fn note_move(tally: &mut [u64; ROOM], stops: u64, book: Book, refusal: u64) {
-    let kept = (refusal == 3) & crowded(stops, book);
-    add(tally, CROWDED_MOVES, kept as u64);
+pub fn note_move(tally: &mut Tally, book: &Book, answer: &Answer) {
+    let kept = matches!(answer.refusal, Some(Refusal::BadTables));
+    tally.add_if(Count::CrowdedMoves, kept && book.is_crowded());
 }
 
 // Counts an edit that is to be reversed, with a crowded pair before or after it.
-pub fn note_reversed(tally: &mut [u64; ROOM], stops: u64, before: Book, after: Book) {
-    let either = crowded(stops, before) | crowded(stops, after);
-    add(tally, REVERSED_CROWDED, either as u64);
+pub fn note_reversed(tally: &mut Tally, before: &Book, after: &Book) {
+    tally.add_if(Count::ReversedCrowded, is_crowded_at_ends(before, after));
 }

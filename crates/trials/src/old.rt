@@ -1,54 +1,32 @@
 // Tables made with the old numbers: the lister's, by the old scale.
-use super::chance::once_in;
+use super::chance::Chance;
 use super::choose::brought;
-use super::model::{Book, old_book_of};
-use super::outcome::{with_costs, with_passing};
-use super::places::CELLS;
-use calls::entries::{at_long, put, put_long};
-use calls::tables;
-use calls::tables::{Tables, cells, filled, stops};
+use super::costs::Costs;
+use super::hall_book::Book;
+use super::take_over::{take_narrowed, take_over};
+use calls::tables::{self, Tables, cells};
 
-// Takes the first entries over from a list of 64 bits, to a table of 32.
-fn narrowed(from: &[u64; CELLS], count: usize, table: &mut [u32; tables::CELLS]) {
-    for i in 0..count {
-        put(table, i, at_long(from, i));
-    }
+// Puts the tables of a book in front of others.
+fn set(book: &Book, tables: &mut Tables) {
+    let stops = book.stops();
+    let count = cells(stops);
+    book.hall.costs.put_into(tables);
+    book.hall.passing.put_into(tables);
+    take_narrowed(&book.time, count, &mut tables.time);
+    take_narrowed(&book.ways, count, &mut tables.ways);
+    take_over(&book.share, count, &mut tables.share);
+    take_over(&book.score, tables::stops(stops), &mut tables.score);
 }
 
-// The same, to a table of 64 bits.
-fn taken(from: &[u64], count: usize, table: &mut [u64]) {
-    for i in 0..count {
-        put_long(table, i, at_long(from, i));
-    }
-}
-
-// The tables t, with those of a book in front.
-fn of_book(n: u64, book: Book, t: Tables) -> Tables {
-    let k = cells(n);
-    let mut score = t.score;
-    taken(&book.score, stops(n), &mut score);
-    let mut share = t.share;
-    taken(&book.share, k, &mut share);
-    let mut ways = t.ways;
-    narrowed(&book.ways, k, &mut ways);
-    let mut time = t.time;
-    narrowed(&book.time, k, &mut time);
-    let held = with_passing(&book.passing, n, t);
-    let mut next = with_costs(&book.cost, n, held);
-    next.time = time;
-    next.ways = ways;
-    next.share = share;
-    next.score = score;
-    next
-}
-
-// The tables t, with the old tables of these costs, and passing times of 0, in front.
-pub fn of_costs(n: u64, cost: [u32; CELLS], t: Tables) -> Tables {
-    of_book(n, old_book_of(n, cost), t)
+// Puts the old tables of these costs, and passing times of 0, in front of others.
+pub fn set_of_costs(costs: &Costs, tables: &mut Tables) {
+    set(&Book::of_old(*costs), tables);
 }
 
 // The old tables of a drawn hall, with the entry 7 behind them. Some of its costs are not valid.
-pub fn drawn(seed: &mut u64, n: u64) -> Tables {
-    let even = once_in(seed, 4);
-    of_costs(n, brought(seed, n, even), filled(7, 7))
+pub fn drawn(chance: &mut Chance, stops: u64) -> Tables {
+    let even = chance.once_in(4);
+    let mut tables = Tables::filled(7, 7);
+    set_of_costs(&brought(chance, stops, even), &mut tables);
+    tables
 }

@@ -1,9 +1,9 @@
 -- Laws of reading a text from the front: its first line or word ends where its first line feed or space stands, and a word's digits
 -- are read one by one. Assumes nothing.
-use Prim.Native.Nat.{ℕ, suc, ◌+◌, ◌*◌, ◌-◌, ◌<◌, ◌≤◌}
-use mathlib.Core.Path.{◌≡◌, refl, sym, ◌∙◌, ap}
-use mathlib.Core.Bool.{Bool, true, false, ◌&&◌}
-use mathlib.Core.List.{List, [], ◌∷◌}
+use Prim.Native.Nat.{ℕ, suc, ◌+◌, ◌*◌, ◌-◌, ◌<◌, ◌≤◌, min}
+use mathlib.Core.Path.{◌≡◌, refl, sym, ◌∙◌, ap, subst}
+use mathlib.Core.Bool.{Bool, true, false, cond, ◌&&◌}
+use mathlib.Core.List.{List, [], ◌∷◌, ◌++◌}
 use mathlib.Core.Logic.{⊎_elim}
 use native.Mathlib.Nat.{eq-or-lt_of_le, le_of_eq}
 use native.Mathlib.Numerals.{add-one}
@@ -11,16 +11,51 @@ use native.Mathlib.Omega.{arith}
 use lib.Dec.{eqb, leb}
 use lib.ListN.{length, get_or, take, drop, length-drop, drop_of_length-le}
 use lib.Seq.{drop-cons, drop-drop, take_all}
+use Rattle.std.specs.Bool.{then_some}
+use Rattle.std.specs.List.{All, slice_split, onto_first, IsFirstMatchOrLen}
+use Rattle.std.specs.Option.{option_or}
+use Rattle.std.specs.Bool.{MatchBool}
+use Rattle.std.specs.Fn.{CalledAt, ComputesKey}
+use denote.Param.Members.{Mut}
+use denote.Ref.{Bor}
+use Rattle.std.proofs.lemmas.List.{drop_min}
+use Rattle.std.proofs.lemmas.Grind.{common_steps}
+use Rattle.std.proofs.lemmas.Fn.{always_returns_same}
+use Rattle.std.proofs.lemmas.List.Splits.{slice_split_none, slice_split_at}
+use Rattle.std.specs.Prelude.{Option, Some, None}
+use Rattle.std.specs.Cmp.Lexicographic.{pointwise}
+use Rattle.routes.specs.Route.{same}
 use Rattle.words.specs.Scan.{index_of}
 use Rattle.words.specs.Text.{before, parts, lines, words, digits, value_from}
 
+-- the test that two words are the same is that of std's `==`
+pub same-pointwise : (a b : List ℕ) → same a b ≡ pointwise eqb a b
+unfolding same
+same-pointwise [] [] = refl
+same-pointwise [] (y ∷ b) = refl
+same-pointwise (x ∷ a) [] = refl
+same-pointwise (x ∷ a) (y ∷ b) = ap (λ (t : Bool). eqb x y && t) (same-pointwise a b)
+
+pub some-then : {A : Type 0} (b : Bool) (x : A) → then_some b x ≡ cond b (Some x) None
+some-then true x = refl
+some-then false x = refl
+
+-- a kind, or else one of the others
+pub or-cond : {A : Type 0} (b : Bool) (x : A) (y z : Option A) → option_or (cond b (Some x) y) z ≡ cond b (Some x) (option_or y z)
+or-cond true x y z = refl
+or-cond false x y z = refl
+
 module _ (d : ℕ) where
+  pub index-none : index_of d [] ≡ 0
+  unfolding index_of
+  index-none = refl
+
   -- the place of the first byte d: here, or as far on as in the rest
-  index-here : (x : ℕ) (text : List ℕ) → eqb x d ≡ true → index_of d (x ∷ text) ≡ 0
+  pub index-here : (x : ℕ) (text : List ℕ) → eqb x d ≡ true → index_of d (x ∷ text) ≡ 0
   unfolding index_of
   index-here x text e = rw e
 
-  index-next : (x : ℕ) (text : List ℕ) → eqb x d ≡ false → index_of d (x ∷ text) ≡ suc (index_of d text)
+  pub index-next : (x : ℕ) (text : List ℕ) → eqb x d ≡ false → index_of d (x ∷ text) ≡ suc (index_of d text)
   unfolding index_of
   index-next x text e = rw e (omega arith)
 
@@ -61,6 +96,41 @@ module _ (d : ℕ) where
       let e : eqb x d ≡ false = index-later x (y ∷ text) (omega arith) in
       rw e (ap (before x) (parts_whole last one y text (omega (arith, index-next x (y ∷ text) e))))
 
+-- the words of a line are the parts between its spaces
+before-first : (x : ℕ) (l : List (List ℕ)) → before x l ≡ onto_first x l
+unfolding before
+before-first x [] = refl
+before-first x (part ∷ l) = refl
+
+pub words-split : (line : List ℕ) → words line ≡ slice_split (λ x. eqb x 32) line
+unfolding parts
+words-split [] = refl
+words-split (x ∷ line) = rw (words-split line, before-first x (slice_split (λ y. eqb y 32) line))
+
+-- the words that `split` has left, and what its next call says of them
+abbrev pub left : Bool → List ℕ → List (List ℕ)
+left done rest = cond done [] (words rest)
+
+module _ {F : Type 0} {g : Mut F (Bor ℕ × Unit {0}) Bool} {f f' : F} (rest x rest' : List ℕ) (done done' : Bool)
+    (step : (done ≡ false) × MatchBool done' (rest ≡ x) ((y : ℕ) × (rest ≡ x ++ (y ∷ rest'))) × ((p : ℕ → Bool) → ComputesKey g p f → ComputesKey g p f' × IsFirstMatchOrLen p rest (length x)))
+    (tests : (y : ℕ) (b : Bool) (q : F) → CalledAt g f y b q → (q ≡ f) × (b ≡ eqb y 32)) where
+  abbrev space : ℕ → Bool
+  space y = eqb y 32
+
+  first : IsFirstMatchOrLen space rest (length x)
+  first =
+      (step.2 space (always_returns_same g (λ a r. r ≡ space a.0.now) f (λ a r q k. let m = tests a.0.now r q (record { shown = a.0; shows = refl; called = k }) in (m.1, m.0)))).1
+
+  part : (b : Bool) → MatchBool b (rest ≡ x) ((y : ℕ) × (rest ≡ x ++ (y ∷ rest'))) → slice_split space rest ≡ x ∷ cond b [] (slice_split space rest')
+  part true e = ap (slice_split space) e ∙ slice_split_none space x (λ k d l. subst (λ (ys : List ℕ). space (get_or ys k d) ≡ false) e (first.0 k d (omega arith) l))
+  part false e =
+      let front : All (λ z. space z ≡ false) x = λ k d l. let a = first.0 k d (omega arith) l in let b = e.1 in grind (arith, common_steps) in
+      let hit : space e.0 ≡ true = let b = e.1 in let a = first.1 (grind (arith, common_steps)) e.0 in grind (arith, common_steps) in
+      ap (slice_split space) e.1 ∙ slice_split_at space x e.0 rest' front hit
+
+  pub left-some : left done rest ≡ x ∷ left done' rest'
+  left-some = rw (step.0, words-split rest, words-split rest') (part done' step.1)
+
 -- the part of a list from place k on
 abbrev pub from : ℕ → List ℕ → List ℕ
 from k l = take (length l - k) (drop k l)
@@ -68,19 +138,15 @@ from k l = take (length l - k) (drop k l)
 pub from-drop : (k : ℕ) (l : List ℕ) → from k l ≡ drop k l
 from-drop k l = take_all (length l - k) (drop k l) (le_of_eq (length-drop k l))
 
--- a line with a space: its first word ends there
-pub word_first : (line : List ℕ) (k : ℕ) → k ≡ index_of 32 line → k < length line → words line ≡ take k line ∷ words (from (k + 1) line)
-word_first line k e h = rw (from-drop (k + 1) line, add-one k, e) (parts_first 32 ([] ∷ []) line (rw e at h))
-
--- a line without a space is one word
-pub word-last : (line : List ℕ) → length line ≤ index_of 32 line → words line ≡ line ∷ []
-unfolding parts before
-word-last [] h = refl
-word-last (x ∷ line) h = parts_whole 32 ([] ∷ []) (λ y. refl) x line h
-
+-- a line has a word, if only an empty one
 pub word_some : (line : List ℕ) → (w : List ℕ) × (ws : List (List ℕ)) × (words line ≡ w ∷ ws)
-word_some line =
-    ⊎_elim (λ e. (line, [], word-last line (le_of_eq (sym e)))) (λ l. (_, _, word_first line (index_of 32 line) refl l)) (eq-or-lt_of_le (index-within 32 line))
+unfolding parts before
+word_some [] = ([], [], refl)
+word_some (x ∷ line) = go (eqb x 32) refl (word_some line)
+  where
+    go : (b : Bool) → eqb x 32 ≡ b → (w : List ℕ) × (ws : List (List ℕ)) × (words line ≡ w ∷ ws) → (w : List ℕ) × (ws : List (List ℕ)) × (words (x ∷ line) ≡ w ∷ ws)
+    go true e m = ([], words line, rw e)
+    go false e (w, ws, m) = (x ∷ w, ws, rw (e, m))
 
 -- a text that is not empty: its first line, and the lines after its first line feed
 pub line_first : (text : List ℕ) → 0 < length text → lines text ≡ take (index_of 10 text) text ∷ lines (drop (suc (index_of 10 text)) text)
@@ -93,16 +159,11 @@ line_first (x ∷ text) h = ⊎_elim (λ e. whole (le_of_eq (sym e))) (parts_fir
         let none : drop (suc (index_of 10 (x ∷ text))) (x ∷ text) ≡ [] = drop_of_length-le (x ∷ text) {i = suc (index_of 10 (x ∷ text))} (omega arith) in
         rw (parts_whole 10 [] (λ y. refl) x text h, take_all (index_of 10 (x ∷ text)) (x ∷ text) h, none)
 
--- the lines from place i on: where the line there ends, the next ones begin
-pub line-next : (text : List ℕ) (i e : ℕ) → i < length text → e ≡ index_of 10 (from i text) → lines (drop i text) ≡ take e (from i text) ∷ lines (drop (i + e + 1) text)
-line-next text i e h cut =
-    let cut' : e ≡ index_of 10 (drop i text) = cut ∙ ap (index_of 10) (from-drop i text) in
-    let place : i + e + 1 ≡ i + suc e = omega arith in
-    let on : drop (i + e + 1) text ≡ drop (suc e) (drop i text) = ap (λ (k : ℕ). drop k text) place ∙ sym (drop-drop (suc e) i text) in
-    rw (from-drop i text, on, cut') (line_first (drop i text) (omega (arith, length-drop i text)))
-
-pub index-inside : (text : List ℕ) (i e : ℕ) → i < length text → e ≡ index_of 10 (from i text) → i + e ≤ length text
-index-inside text i e h cut = omega (arith, index-within 10 (from i text), ap length (from-drop i text), length-drop i text)
+-- the same as the iterator over lines cuts it
+pub line-cut : (text line rest : List ℕ) (k : ℕ) → 0 < length text → line ≡ take (index_of 10 text) text → rest ≡ drop (index_of 10 text) text → k ≡ min 1 (length rest) →
+    lines text ≡ line ∷ lines (from k rest)
+line-cut text line rest k some front back cut =
+    rw (from-drop k rest, cut, drop_min 1 rest, back, drop-drop 1 (index_of 10 text) text, add-one (index_of 10 text), front) (line_first text some)
 
 -- a word from place i on: its byte there, and the rest
 module _ (word : List ℕ) (i : ℕ) (h : i < length word) where

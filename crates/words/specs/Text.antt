@@ -1,20 +1,15 @@
 -- hallscore, whole (document 01, with requests 1, 3, 7 and 8 of document 02): the listing that it prints, for any text. A text is the list of
 -- its bytes. Assumes nothing.
-use Rattle.std.specs.Prelude.{ℕ, zero, suc, ◌+◌, ◌*◌, ◌-◌, ◌/◌, ◌%◌, Bool, true, cond, ◌&&◌, List, [], ◌∷◌, ◌++◌, eqb, ltb, leb, length}
+use Rattle.std.specs.Prelude.{ℕ, zero, suc, ◌+◌, ◌*◌, ◌-◌, ◌/◌, ◌%◌, Bool, true, cond, ◌&&◌, List, [], ◌∷◌, ◌++◌, eqb, ltb, leb, length, Option, Some, None}
 use Prim.Native.Char.{code}
 use Prim.Native.String.{String, [] as end, ◌∷◌ as ◌then◌}
 use Rattle.routes.specs.Route.{join_to, same, score}
 use Rattle.book.specs.Hall.{most_stops, most_ways, scale, up_to, costs_in, no_passing, no_links}
 use Rattle.book.specs.Call.{edit, number, Answer}
 use Rattle.book.specs.Book.{Book, book_after, book_answer}
+use Rattle.book.specs.declared.Edit.{Edit}
 use Rattle.book.specs.declared.Kind.{Kind}
 use Rattle.book.specs.declared.Kind.TheVariants.{Insert, Cheapen, Raise, Delete}
-use Rattle.words.specs.declared.Line.{Line}
-use Rattle.words.specs.declared.Line.TheVariants.{Read, Unread}
-use Rattle.words.specs.declared.Named.{Named}
-use Rattle.words.specs.declared.Named.TheVariants.{Known, Unknown}
-use Rattle.words.specs.declared.Number.{Number}
-use Rattle.words.specs.declared.Number.TheVariants.{Value, NotNumber}
 
 -- the longest text that is read, in bytes
 abbrev pub longest : ℕ
@@ -51,28 +46,31 @@ unfoldable pub value_from : ℕ → List ℕ → ℕ
 value_from x [] = x
 value_from x (d ∷ word) = value_from (10 * x + (d - 48)) word
 
-unfoldable pub number_of : List ℕ → Number
+unfoldable pub number_of : List ℕ → Option ℕ
 number_of word =
     let x : ℕ = value_from 0 word in
-    cond (up_to 10 (length word) && (digits word && leb x 4294967295)) (Value x) NotNumber
+    cond (up_to 10 (length word) && (digits word && leb x 4294967295)) (Some x) None
 
--- the n of the line `hall n`, 0 where the line is none
-abbrev pub stops_of : Number → ℕ
-stops_of (Value n) = n
-stops_of NotNumber = 0
+-- the n of the line `hall n`, and as a number of stops: 0 where the line is none
+unfoldable pub hall_word : List (List ℕ) → Option ℕ
+hall_word [] = None
+hall_word (h ∷ []) = None
+hall_word (h ∷ n ∷ []) = cond (same h (bytes "hall")) (number_of n) None
+hall_word (h ∷ n ∷ x ∷ more) = None
 
-unfoldable pub hall_of : List (List ℕ) → ℕ
-hall_of [] = 0
-hall_of (h ∷ []) = 0
-hall_of (h ∷ n ∷ []) = cond (same h (bytes "hall")) (stops_of (number_of n)) 0
-hall_of (h ∷ n ∷ x ∷ more) = 0
+abbrev pub stops_of : Option ℕ → ℕ
+stops_of (Some n) = n
+stops_of None = 0
+
+abbrev pub hall_of : List (List ℕ) → ℕ
+hall_of words = stops_of (hall_word words)
 
 -- the kind of edit that a word names: of those with a cost, and of those without
-unfoldable pub kind_in : List (List ℕ × Kind) → List ℕ → Named
-kind_in [] word = Unknown
-kind_in (k ∷ more) word = cond (same word k.0) (Known k.1) (kind_in more word)
+unfoldable pub kind_in : List (List ℕ × Kind) → List ℕ → Option Kind
+kind_in [] word = None
+kind_in (k ∷ more) word = cond (same word k.0) (Some k.1) (kind_in more word)
 
-abbrev pub costly_kind : List ℕ → Named
+abbrev pub costly_kind : List ℕ → Option Kind
 costly_kind =
     kind_in
     ((bytes "insert", Insert) ∷
@@ -80,28 +78,28 @@ costly_kind =
     (bytes "raise", Raise) ∷
     [])
 
-abbrev pub plain_kind : List ℕ → Named
+abbrev pub plain_kind : List ℕ → Option Kind
 plain_kind =
     kind_in
     ((bytes "delete", Delete) ∷
     [])
 
 -- the edit of a kind, u, v and a cost
-unfoldable pub edit_of : Named → Number → Number → Number → Line
-edit_of (Known k) (Value u) (Value v) (Value c) = Read (record { kind = k; u = u; v = v; cost = c })
-edit_of (Known k) (Value u) (Value v) NotNumber = Unread
-edit_of (Known k) (Value u) NotNumber c = Unread
-edit_of (Known k) NotNumber v c = Unread
-edit_of Unknown u v c = Unread
+unfoldable pub edit_of : Option Kind → Option ℕ → Option ℕ → Option ℕ → Option Edit
+edit_of (Some k) (Some u) (Some v) (Some c) = Some (record { kind = k; u = u; v = v; cost = c })
+edit_of (Some k) (Some u) (Some v) None = None
+edit_of (Some k) (Some u) None c = None
+edit_of (Some k) None v c = None
+edit_of None u v c = None
 
 -- an edit line is the kind, u, v and, where the kind has one, the cost
-unfoldable pub line_of : List (List ℕ) → Line
-line_of [] = Unread
-line_of (k ∷ []) = Unread
-line_of (k ∷ u ∷ []) = Unread
-line_of (k ∷ u ∷ v ∷ []) = edit_of (plain_kind k) (number_of u) (number_of v) (Value 0)
+unfoldable pub line_of : List (List ℕ) → Option Edit
+line_of [] = None
+line_of (k ∷ []) = None
+line_of (k ∷ u ∷ []) = None
+line_of (k ∷ u ∷ v ∷ []) = edit_of (plain_kind k) (number_of u) (number_of v) (Some 0)
 line_of (k ∷ u ∷ v ∷ c ∷ []) = edit_of (costly_kind k) (number_of u) (number_of v) (number_of c)
-line_of (k ∷ u ∷ v ∷ c ∷ x ∷ more) = Unread
+line_of (k ∷ u ∷ v ∷ c ∷ x ∷ more) = None
 
 -- a number in decimal, of at most k + 1 digits; 20 hold every 64-bit number
 unfoldable pub decimal_to : ℕ → ℕ → List ℕ
@@ -129,13 +127,13 @@ abbrev pub stop_line : ℕ → ℕ → List ℕ
 stop_line v x = labelled "stop " v ++ labelled " score " x ++ bytes "\n"
 
 -- line i over the book: what it prints, and the book after it
-unfoldable pub said : ℕ → Book → Line → List ℕ
-said i b Unread = unread_line i
-said i b (Read e) = edit_line i (book_answer (record { n = b.stops; ask = edit e }) b)
+unfoldable pub said : ℕ → Book → Option Edit → List ℕ
+said i b None = unread_line i
+said i b (Some e) = edit_line i (book_answer (record { n = b.stops; ask = edit e }) b)
 
-unfoldable pub next : Book → Line → Book
-next b Unread = b
-next b (Read e) = book_after (record { n = b.stops; ask = edit e }) b
+unfoldable pub next : Book → Option Edit → Book
+next b None = b
+next b (Some e) = book_after (record { n = b.stops; ask = edit e }) b
 
 -- the book at first: no links, and every passing time 0
 abbrev pub empty_book : ℕ → Book

@@ -2,12 +2,12 @@ use Rattle.std.proofs.Common.{◌<◌, arith}
 use Rattle.std.proofs.lemmas.Nat.{or_lt}
 use Rattle.std.proofs.Math.Pow.{pow-lt}
 use Rattle.lister.proofs.touched.Goals as goal
-use Rattle.lister.proofs.touched.Goals.{then-touches_either, else-touches_either}
+use Rattle.lister.proofs.touched.Goals.{then-touches, else-touches+else-touches-2}
 
-pub loop-s-preserved : goal.loop-s-preserved
-loop-s-preserved c =
-    let below : c.loop-s.s < c.few-n.result = omega arith in
-    elim c.if-touches_either.branch [
-      | then-touches_either w ↦ rw (w.set-is, w.with-set.ensures) (or_lt _ _ _ c.loop-s.invariant (pow-lt below))
-      | else-touches_either w ↦ rw w.set-is c.loop-s.invariant
+pub loop-number-preserved : goal.loop-number-preserved
+loop-number-preserved c =
+    let below : c.loop-number.number < c.new-before.result.n = omega arith in
+    elim c.if-touches.branch [
+      | then-touches w ↦ rw w.set-is (or_lt _ _ _ c.loop-number.invariant (omega (arith, pow-lt below)))
+      | else-touches+else-touches-2 w ↦ rw w.set-is c.loop-number.invariant
     ]

@@ -1,8 +1,8 @@
-use Prim.Native.Nat.{◌≤◌}
-use lib.ListN.{length}
-use Rattle.routes.specs.Stored.{Stored}
-use Rattle.moves.proofs.Moving.{part}
+use mathlib.Core.Path.{◌≡◌}
+use mathlib.Core.List.{◌++◌}
+use lib.ListN.{take, drop}
+use Rattle.book.specs.Hall.{divided}
 use Rattle.moves.proofs.divide.Given as goal
 
-abbrev pub invariant-loop-i : goal.invariant-loop-i
-invariant-loop-i l = (l.i ≤ length l.initial.table) × Stored (part l.initial.table) l.i l.initial.table l.table
+abbrev pub invariant-loop-entry : goal.invariant-loop-entry
+invariant-loop-entry l = l.table ≡ divided (take l.entry-index l.initial.table) ++ drop l.entry-index l.initial.table

@@ -1,22 +1,18 @@
-use lib.ListN.{length-set}
 use Rattle.changes.proofs.Changes.{lengths, worked-changed}
-use Rattle.changes.proofs.Laws.{square', valid', comes, changes, below, stays}
+use Rattle.changes.proofs.Laws.{square', valid', changes, below, stays}
 use Rattle.rework.proofs.set_cost.Goals as goal
 
-pub rework-requires : goal.rework-requires
-rework-requires c = let h = c.requires.change in
-    rw (c.dearer-up.ensures, c.start.ensures.place) (record {
-      measure = c.requires.measure;
-      n_bound = (h.most, square' h, valid' h, h.from, h.to);
-      passing_len = (h.long, h.passable);
-      square = lengths (changes h);
-      v_nonzero = (comes h, below h _ c.requires.found);
-    })
+pub rework-requires-clause-costs : goal.rework-requires-clause-costs
+rework-requires-clause-costs c = let h = c.requires.change in
+    rw c.start.ensures.place (square' h, valid' h)
 
-pub shape_of-cost : goal.shape_of-cost
-shape_of-cost c = simp length-set
+pub rework-requires-clause-square : goal.rework-requires-clause-square
+rework-requires-clause-square c = lengths (changes c.requires.change)
 
-pub returns : goal.returns
-returns c = let h = c.requires.change in
+pub rework-requires-clause-by_index : goal.rework-requires-clause-by_index
+rework-requires-clause-by_index c = below c.requires.change _ c.requires.found
+
+pub returns-clause-worked : goal.returns-clause-worked
+returns-clause-worked c = let h = c.requires.change in
     let r = rw (c.dearer-up.ensures, c.start.ensures.place) at c.rework.ensures in
-    (worked-changed (changes h) _ (stays h _ c.requires.found) _ _ _ r, rw c.start.ensures.place)
+    worked-changed (changes h) _ (stays h _ c.requires.found) _ _ _ r

@@ -3,7 +3,7 @@ use Rattle.route_walk.specs.Promise.{from_left, along_left}
 use Rattle.route_walk.proofs.+from_stop_next_link.Given as goal
 
 abbrev pub decreases-from_stop : goal.decreases-from_stop
-decreases-from_stop l = from_left l.n l.k
+decreases-from_stop l = from_left l.trip.now.n l.k
 
 abbrev pub decreases-next_link : goal.decreases-next_link
-decreases-next_link l = along_left l.n l.k l.from
+decreases-next_link l = along_left l.trip.now.n l.k l.from

@@ -1,16 +1,13 @@
--- `costs::apart` collects whether an entry of the diagonal is not 0.
-use Rattle.std.proofs.Common.{rules, arith, refl}
-use Rattle.routes.specs.Route.{all_to}
-use Rattle.routes.proofs.Tests.{all_end}
-use Rattle.cells.proofs.Valid.{apart-more}
+-- `costs::apart` tests the diagonal, stop by stop.
+use Rattle.std.proofs.Common.{ℕ, Bool, rules, arith, ◌≡◌, true, false, eqb, refl}
+use borrow.Author.Tests.{tests}
+use Rattle.std.proofs.lemmas.Iterator.{cases_from_all, YieldsList-from_range}
+use Rattle.book.specs.Hall.{entry}
+use Rattle.cells.proofs.Valid.{range-tested}
 use Rattle.cells.proofs.costs.apart.Goals as goal
 
-pub loop-u-init : goal.loop-u-init
-unfolding all_to
-loop-u-init c = (omega arith, refl)
-
-pub loop-u-preserved : goal.loop-u-preserved
-loop-u-preserved c = (omega arith, apart-more _ _ _ _ _ (search rules) c.loop-u.invariant.1)
-
 pub returns : goal.returns
-returns c = search (rules, all_end)
+returns c =
+    let n = c.args.n in
+    let own : ℕ → Bool = λ u. eqb (entry n c.args.cost.now u u) 0 in
+    range-tested n own _ (cases_from_all _ _ _ (λ u. own u ≡ true) (λ u. own u ≡ false) c.all.ensures.ran (YieldsList-from_range 0 n n refl (omega arith)) (λ x q k. search (rules, tests)) (λ x q k. search (rules, tests)))

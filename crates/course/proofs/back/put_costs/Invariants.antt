@@ -1,8 +1,11 @@
-use Rattle.course.proofs.Undone.{Undoing}
+use mathlib.Core.Path.{◌≡◌}
+use lib.ListN.{length}
+use Rattle.course.specs.Promise.{undone, IsInside}
 use Rattle.course.proofs.back.put_costs.Given as goal
 
-abbrev pub invariant-loop-k : goal.invariant-loop-k
-invariant-loop-k l = Undoing l.initial.k l.spots l.costs l.initial.cost l.cost l.k
+abbrev pub invariant-loop-change : goal.invariant-loop-change
+invariant-loop-change l =
+    (length l.cost ≡ length l.fn.cost) × IsInside (length l.fn.cost) l.changes.items × (undone l.changes.items l.cost ≡ undone l.fn.changes.items l.fn.cost)
 
-abbrev pub decreases-loop-k : goal.decreases-loop-k
-decreases-loop-k l = l.k
+abbrev pub decreases-loop-change : goal.decreases-loop-change
+decreases-loop-change l = length l.changes.items

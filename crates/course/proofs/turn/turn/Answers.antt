@@ -1,20 +1,22 @@
+use Rattle.std.specs.Prelude.{Ok, Err}
+use Rattle.std.proofs.lemmas.Result.{err_from_is_err_and}
 use mathlib.Core.Path.{refl}
-use Rattle.routes.proofs.Booleans.{both, failed, held}
+use Rattle.course.specs.Promise.{Noted}
 use Rattle.course.proofs.Standing.{edit-inside}
-use mathlib.Core.Path.{ap}
-use mathlib.Core.Bool.{not}
 use Rattle.course.proofs.turn.turn.Goals as goal
 
-pub returns-then-not-passes : goal.returns-then-not-passes
-returns-then-not-passes c = record { shut = λ e. (refl, refl); made = λ ok. absurd (both ok (failed c.passes.ensures (ap not c.if-not-passes.true))) }
-
-pub edit_audited-answer-requires : goal.edit_audited-answer-requires
-edit_audited-answer-requires c = c.requires.audited (held c.passes.ensures (ap not c.if-not-passes.false))
+pub returns-in_err-edited-clause-turned : goal.returns-in_err-edited-clause-turned
+unfolding Noted
+returns-in_err-edited-clause-turned c =
+    let p = err_from_is_err_and c.from_residual.result c.from_residual.ensures.1 in
+    rw (p.1, p.2) (record { answer = Err c.in_err-edited.field-0.0; done = c.in_err-edited.ensures.done; told = refl; noted = (refl, refl) })
 
 pub note-requires : goal.note-requires
-note-requires c = let ok = held c.passes.ensures (ap not c.if-not-passes.false) in
-    (c.requires.room ok, edit-inside _ c.args.e _ _ c.edit_audited-answer.result c.edit_audited-answer.ensures (c.requires.audited ok))
+note-requires c =
+    let (from, to, most) = edit-inside _ c.args.e _ _ (Ok c.in_ok-edited.edited) c.in_ok-edited.ensures.done c.requires.audited refl in
+    (c.requires.room, from, to, most)
 
-pub returns : goal.returns
-returns c = let ok = held c.passes.ensures (ap not c.if-not-passes.false) in
-    record { shut = λ e. absurd (both ok e); made = λ o. record { said = c.edit_audited-answer.result; done = c.edit_audited-answer.ensures; noted = c.note.ensures } }
+pub returns-clause-turned : goal.returns-clause-turned
+unfolding Noted
+returns-clause-turned c =
+    record { answer = Ok c.in_ok-edited.edited; done = c.in_ok-edited.ensures.done; told = refl; noted = (c.note.ensures.touched, c.note.ensures.changes) }

@@ -1,25 +1,34 @@
-use mathlib.Core.Path.{sym, ◌∙◌, ap}
-use Rattle.routes.proofs.Booleans.{failed, held}
+use mathlib.Core.Path.{refl, sym, ◌∙◌, ap}
+use lib.ListN.{length}
+use Rattle.std.proofs.lemmas.Result.{err_from_is_err_and}
 use Rattle.book.specs.Call.{accepted}
 use Rattle.book.proofs.Sizes.{stops, lengths}
-use Rattle.tables.proofs.Measured.{hall-measure}
-use Rattle.edits.proofs.Calls.{change-of, edit-refused, edit-done}
-use mathlib.Core.Bool.{not}
+use Rattle.edits.proofs.Calls.{tests-seen, change-of, edit-refused, edit-done}
 use Rattle.edits.proofs.audited.edit_audited.Goals as goal
 
-pub permit-verdict-requires : goal.permit-verdict-requires
-permit-verdict-requires c = ((stops _ c.requires.inside.size).1, (lengths _ _ c.requires.inside.lengths).costs)
+pub permit-requires : goal.permit-requires
+permit-requires c = ((stops _ c.requires.inside.size).1, ap (λ x. length x.layout.cost) c.view.ensures ∙ (lengths _ _ c.requires.inside.lengths).costs)
 
-pub returns-then-not-passes : goal.returns-then-not-passes
-returns-then-not-passes c = rw c.refused.ensures (edit-refused _ _ _ c.requires _ c.permit-verdict.ensures (failed c.passes.ensures (ap not c.if-not-passes.true)))
+pub returns-in_err-permit-clause-done : goal.returns-in_err-permit-clause-done
+returns-in_err-permit-clause-done c =
+    let p = err_from_is_err_and c.from_residual.result c.from_residual.ensures.1 in
+    rw (p.1, p.2) (edit-refused _ _ _ c.requires _ (tests-seen _ c.args.e c.view.ensures c.in_err-permit.ensures) refl)
 
-pub cost_set-new-requires : goal.cost_set-new-requires
-cost_set-new-requires c = (change-of _ c.args.e _ c.requires (ap accepted (sym c.permit-verdict.ensures) ∙ held c.passes.ensures (ap not c.if-not-passes.false))).fits
+pub invariant_of-link : goal.invariant_of-link
+invariant_of-link c =
+    let ok = ap accepted (sym (tests-seen _ c.args.e c.view.ensures c.in_ok-permit.ensures)) in
+    let h = change-of _ c.args.e _ c.requires ok in
+    record { inside = (h.most, h.from, h.to) }
 
-pub apply-requires : goal.apply-requires
-apply-requires c = let ok = ap accepted (sym c.permit-verdict.ensures) ∙ held c.passes.ensures (ap not c.if-not-passes.false) in
-    record { measure = hall-measure; change = rw c.cost_set-new.ensures (change-of _ c.args.e _ c.requires ok); score_len = (lengths _ _ c.requires.inside.lengths).scores }
+pub apply-requires-clause-change : goal.apply-requires-clause-change
+apply-requires-clause-change c =
+    let ok = ap accepted (sym (tests-seen _ c.args.e c.view.ensures c.in_ok-permit.ensures)) in
+    rw c.cost_set.ensures (change-of _ c.args.e _ c.requires ok)
 
-pub returns : goal.returns
-returns c = let ok = ap accepted (sym c.permit-verdict.ensures) ∙ held c.passes.ensures (ap not c.if-not-passes.false) in
-    edit-done _ c.args.e _ c.requires ok (rw c.cost_set-new.ensures at c.apply.ensures)
+pub apply-requires-clause-score_len : goal.apply-requires-clause-score_len
+apply-requires-clause-score_len c = (lengths _ _ c.requires.inside.lengths).scores
+
+pub returns-clause-done : goal.returns-clause-done
+returns-clause-done c =
+    let ok = ap accepted (sym (tests-seen _ c.args.e c.view.ensures c.in_ok-permit.ensures)) in
+    edit-done _ c.args.e _ c.requires ok (rw c.cost_set.ensures at c.apply.ensures.applied)

@@ -1,10 +1,5 @@
-use borrow.Author.Rules.{rules}
-use Rattle.tables.proofs.Measured.{hall-measure}
 use Rattle.hall.proofs.Tests.{audit-done}
 use Rattle.hall.proofs.audit.audit.Goals as goal
 
-pub audit_by-requires : goal.audit_by-requires
-audit_by-requires c = hall-measure
-
 pub returns : goal.returns
-returns c = search (rules, audit-done)
+returns c = audit-done _ _ (rw (c.present.ensures.0, c.present.ensures.1) at c.audit_by.ensures)

@@ -1,15 +1,12 @@
 use mathlib.Core.Path.{refl}
+use Rattle.std.proofs.lemmas.Result.{err_from_is_err_and}
 use Rattle.book.specs.Call.{rule}
-use Rattle.routes.proofs.Booleans.{failed, held}
-use Rattle.book.proofs.Doors.{door-passed, door-refused}
+use Rattle.book.proofs.Doors.{door-refused}
 use Rattle.hall.proofs.WorkOut.{brought-fits}
-use mathlib.Core.Path.{ap}
-use mathlib.Core.Bool.{not}
 use Rattle.hall.proofs.work_out.work_out.Goals as goal
 
-pub returns-then-not-passes : goal.returns-then-not-passes
+pub returns-in_err-door : goal.returns-in_err-door
 unfolding rule
-returns-then-not-passes c = door-refused _ _ (brought-fits _ _) refl _ c.door-verdict.ensures (failed c.passes.ensures (ap not c.if-not-passes.true))
-
-pub fill_tables-requires : goal.fill_tables-requires
-fill_tables-requires c = door-passed _ _ c.door-verdict.ensures (held c.passes.ensures (ap not c.if-not-passes.false))
+returns-in_err-door c =
+    let p = err_from_is_err_and c.from_residual.result c.from_residual.ensures.1 in
+    rw (p.1, p.2) (door-refused _ _ (brought-fits _ _) refl _ c.in_err-door.ensures refl)

@@ -1,23 +1,12 @@
 -- `links_rise`: the records are links in order.
-use Rattle.std.proofs.Common.{arith, ◌≡◌, ◌*◌, refl, sym, ◌∙◌, ap, ap₂, ◌&&◌, add-one}
-use Rattle.routes.specs.Route.{all_to}
-use Rattle.book.proofs.Records.{valid-tests}
-use Rattle.image_form.specs.Promise.{link_at}
+use Rattle.std.proofs.Common.{ℕ, Bool, rules, arith, ◌≡◌, true, false, refl}
+use Rattle.std.proofs.lemmas.Iterator.{cases_from_all, YieldsList-from_range}
+use Rattle.book.specs.Hall.{valid_record}
+use Rattle.image_form.proofs.Tested.{range-tested}
 use Rattle.image_form.proofs.image_check.links_rise.Goals as goal
-
-pub loop-i-init : goal.loop-i-init
-unfolding all_to
-loop-i-init c = (omega arith, refl, refl)
-
-pub loop-i-preserved : goal.loop-i-preserved
-unfolding all_to
-loop-i-preserved c =
-    let t = c.loop-i in
-    let a = c.args in
-    let here = c.is_link-good.ensures ∙ ap (link_at a.n a.image.now (4 * t.i)) t.invariant.2 ∙ sym (valid-tests a.n a.image.now t.i) in
-    (omega arith, rw (add-one t.i) (ap₂ ◌&&◌ t.invariant.1 here), rw (add-one t.i) (omega arith))
 
 pub returns : goal.returns
 returns c =
-    let end : c.loop-i.i ≡ c.args.links = omega arith in
-    rw end at c.loop-i.invariant.1
+    let n = c.args.links in
+    let own : ℕ → Bool = valid_record c.args.n c.args.image.now in
+    range-tested n own _ (cases_from_all _ _ _ (λ u. own u ≡ true) (λ u. own u ≡ false) c.all.ensures.ran (YieldsList-from_range 0 n n refl (omega arith)) (λ x q k. search rules) (λ x q k. search rules))

@@ -1,12 +1,11 @@
--- `put_four` stores the low two bytes and the high two.
-use Rattle.std.proofs.Common.{◌∙◌}
-use native.Mathlib.Numerals.{add-two}
-use Rattle.book.specs.Hall.{low_first}
-use Rattle.images.proofs.Writer.{half-bytes}
+-- `put_four` copies the four bytes of the number.
+use Rattle.std.proofs.Common.{◌∙◌, ap}
+use lib.Seq.{sets}
+use Rattle.std.specs.Int.{w32, to_le_bytes}
+use Rattle.images.proofs.Storing.{copied, low-four}
 use Rattle.images.proofs.fields.put_four.Goals as goal
 
 pub returns : goal.returns
-unfolding low_first
 returns c =
-    let (first, second, third, fourth) = half-bytes c.args.x in
-    c.put_two-2.ensures ∙ rw (c.put_two.ensures, add-two, first, second, third, fourth)
+    let a = c.args in
+    rw (c.copy_from_slice.ensures.after, c.to_le_bytes.ensures) (copied (to_le_bytes w32 a.x) a.bytes.now a.at c.requires ∙ ap (sets a.bytes.now a.at) (low-four a.x))

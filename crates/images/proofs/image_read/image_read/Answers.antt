@@ -1,13 +1,14 @@
 -- `image_read::image_read`: the door, and the reading behind it.
-use Rattle.std.proofs.Common.{refl, sym, ◌∙◌}
+use Rattle.std.proofs.Common.{refl, ◌∙◌, ap}
+use Rattle.std.proofs.lemmas.Result.{err_from_is_err_and}
 use Rattle.book.specs.Call.{rule}
+use Rattle.book.specs.Contract.{door_tests}
 use Rattle.book.proofs.Sizes.{passing-fits}
-use Rattle.book.proofs.Doors.{door-passed, door-refused}
+use Rattle.book.proofs.Doors.{door-refused}
 use Rattle.images.proofs.image_read.image_read.Goals as goal
 
-pub returns-then-not-passes : goal.returns-then-not-passes
+pub returns-in_err-door-clause-done : goal.returns-in_err-door-clause-done
 unfolding rule
-returns-then-not-passes c = door-refused _ _ (passing-fits _ _) refl _ c.door-verdict.ensures (sym c.passes.ensures ∙ c.if-not-passes.true)
-
-pub read_tables-requires : goal.read_tables-requires
-read_tables-requires c = door-passed _ _ c.door-verdict.ensures (sym c.passes.ensures ∙ c.if-not-passes.false)
+returns-in_err-door-clause-done c =
+    let p = err_from_is_err_and c.from_residual.result c.from_residual.ensures.1 in
+    rw (p.1, p.2) (door-refused _ _ (passing-fits _ _) refl _ (c.in_err-door.ensures ∙ ap (door_tests c.args.n) c.view.ensures) refl)

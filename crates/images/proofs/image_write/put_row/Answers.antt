@@ -1,13 +1,10 @@
 -- `put_row` stores the records of a row, pair by pair.
-use Rattle.std.proofs.Common.{rules, arith, ◌≡◌, ◌+◌, ◌*◌, ◌≤◌, ◌∙◌, ap, length, get_or}
+use Rattle.std.proofs.Common.{arith, ◌≡◌, ◌+◌, ◌*◌, ◌≤◌, ◌∙◌, ap, length, get_or}
 use Rattle.book.specs.Hall.{entry}
 use Rattle.book.proofs.Tables.{valid-costs}
 use Rattle.images.specs.Promise.{link_bit}
-use Rattle.images.proofs.Writer.{wrote_none, wrote_on, wrote-row, pair_fits, wrote-pair}
+use Rattle.images.proofs.Writer.{wrote_on, wrote-row, pair_fits, wrote-pair}
 use Rattle.images.proofs.image_write.put_row.Goals as goal
-
-pub loop-v-init : goal.loop-v-init
-loop-v-init c = search (rules, wrote_none)
 
 pub put_link-at-requires : goal.put_link-at-requires
 put_link-at-requires c =

@@ -1,8 +1,5 @@
 use Rattle.row.proofs.Relaxing.{Relaxing}
 use Rattle.row.proofs.settle.relax.Given as goal
 
-abbrev pub invariant-loop-left : goal.invariant-loop-left
-invariant-loop-left l = Relaxing l.n l.s l.b l.fresh l.cost l.passing l.initial.time l.initial.pred l.left l.time l.pred
-
-abbrev pub decreases-loop-left : goal.decreases-loop-left
-decreases-loop-left l = l.left
+abbrev pub invariant-loop-t : goal.invariant-loop-t
+invariant-loop-t l = Relaxing l.network.n l.s l.b l.fresh l.network.cost.now l.network.passing.now l.initial.time l.initial.pred l.t-iterator.0 l.time l.pred

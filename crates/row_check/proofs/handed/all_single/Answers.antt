@@ -1,12 +1,8 @@
-use borrow.Author.Rules.{rules}
-use Rattle.row_check.proofs.Testing.{testing-starts, testing-goes, testing-ends}
+use Rattle.row_check.proofs.Testing.{testing-starts, testing-goes}
 use Rattle.row_check.proofs.handed.all_single.Goals as goal
 
-pub loop-t-init : goal.loop-t-init
-loop-t-init c = testing-starts _ _
+pub loop-w-init : goal.loop-w-init
+loop-w-init c = testing-starts _ _
 
-pub loop-t-preserved : goal.loop-t-preserved
-loop-t-preserved c = testing-goes c.loop-t.invariant c.loop-t-test.true
-
-pub returns : goal.returns
-returns c = search (rules, testing-ends)
+pub loop-w-preserved : goal.loop-w-preserved
+loop-w-preserved c = testing-goes c.loop-w.invariant c.loop-w-test.true

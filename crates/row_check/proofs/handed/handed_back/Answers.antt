@@ -1,17 +1,16 @@
-use mathlib.Core.Path.{◌∙◌, ap}
-use Prim.Native.Nat.{◌+◌, ◌/◌}
-use Rattle.row_check.proofs.Handing.{handed-one, handed-none, handed-crowded, handed-some}
 use borrow.Author.Rules.{rules}
+use native.Mathlib.Omega.{arith}
+use Rattle.row_check.proofs.Handing.{handed-one, handed-none, handed-crowded, handed-some}
 use Rattle.row_check.proofs.handed.handed_back.Goals as goal
 
-pub returns-then-w-eq1 : goal.returns-then-w-eq1
-returns-then-w-eq1 c = search (rules, handed-one)
+pub returns-in-1 : goal.returns-in-1
+returns-in-1 c = search (rules, handed-one)
 
-pub returns-then-w-eq0 : goal.returns-then-w-eq0
-returns-then-w-eq0 c = search (rules, handed-none)
+pub returns-in-0 : goal.returns-in-0
+returns-in-0 c = search (rules, handed-none)
 
-pub returns-then-limit-w : goal.returns-then-limit-w
-returns-then-limit-w c = search (rules, handed-crowded)
+pub returns-in_default : goal.returns-in_default
+returns-in_default c = search (rules, handed-crowded)
 
-pub returns : goal.returns
-returns c = ap (λ z. (c.args.scale + c.args.x) / z) c.wide.ensures ∙ handed-some _ _ _ _ c.if-w-eq0.false c.if-limit-w.false
+pub returns-in_default-2 : goal.returns-in_default-2
+returns-in_default-2 c = rw c.from.ensures (handed-some c.args.measure.limit c.args.measure.scale c.args.w c.args.x (omega arith) c.if-measure-w.false)

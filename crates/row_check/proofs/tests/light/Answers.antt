@@ -1,12 +1,8 @@
-use borrow.Author.Rules.{rules}
-use Rattle.row_check.proofs.Testing.{joining-starts, little-goes, joining-ends}
+use Rattle.row_check.proofs.Testing.{testing-starts, light-goes}
 use Rattle.row_check.proofs.tests.light.Goals as goal
 
-pub loop-t-init : goal.loop-t-init
-loop-t-init c = joining-starts _ _
+pub loop-x-init : goal.loop-x-init
+loop-x-init c = testing-starts _ _
 
-pub loop-t-preserved : goal.loop-t-preserved
-loop-t-preserved c = search (rules, little-goes)
-
-pub returns : goal.returns
-returns c = search (rules, joining-ends)
+pub loop-x-preserved : goal.loop-x-preserved
+loop-x-preserved c = light-goes _ _ c.loop-x.invariant c.loop-x-test.true

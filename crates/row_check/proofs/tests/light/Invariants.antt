@@ -1,6 +1,7 @@
+use Rattle.std.proofs.Common.{◌^◌, length, ltb}
 use Rattle.row_check.specs.Tests.{little}
-use Rattle.row_check.proofs.Testing.{Joining}
+use Rattle.row_check.proofs.Testing.{Testing}
 use Rattle.row_check.proofs.tests.light.Given as goal
 
-abbrev pub invariant-loop-t : goal.invariant-loop-t
-invariant-loop-t l = Joining l.n l.t (little l.share) l.over
+abbrev pub invariant-loop-x : goal.invariant-loop-x
+invariant-loop-x l = Testing (length l.share) l.x-index (little l.share) (ltb l.joined (2 ^ 40))

@@ -25,11 +25,14 @@ returns-then-not-no_shortcut c = let p = c.requires in
 pub useful_links-requires : goal.useful_links-requires
 useful_links-requires c = let l = lengths _ _ c.requires.n_nonzero.2 in (c.requires.n_nonzero.1, l.costs, l.times)
 
-pub rows_pass-requires : goal.rows_pass-requires
-rows_pass-requires c = let p = c.requires in
+pub invariant_of-network : goal.invariant_of-network
+invariant_of-network c = let p = c.requires in
     let l = lengths _ _ p.n_nonzero.2 in
     let valid = held c.valid.ensures (ap not c.if-not-valid.false) in
-    record { measure = p.measure; job = job-useful (record { most = p.n_nonzero.1; square = l.costs; long = l.passings; valid = valid; passable = p.passing_value }) _ _ c.useful_links.ensures; square = record { times = l.times; counts = l.counts; shares = l.shares } }
+    record { linked = job-useful (record { most = p.n_nonzero.1; square = l.costs; long = l.passings; valid = valid; passable = p.passing_value }) _ _ c.useful_links.ensures }
+
+pub rows_pass-requires : goal.rows_pass-requires
+rows_pass-requires c = let l = lengths _ _ c.requires.n_nonzero.2 in record { times = l.times; counts = l.counts; shares = l.shares }
 
 pub returns-then-not-rows_pass : goal.returns-then-not-rows_pass
 returns-then-not-rows_pass c = let p = c.requires in
@@ -42,13 +45,12 @@ scores_pass-requires c = let p = c.requires in
     let valid = held c.valid.ensures (ap not c.if-not-valid.false) in
     let cheap = held c.no_shortcut.ensures (ap not c.if-not-no_shortcut.false) in
     let rows = held c.rows_pass.ensures (ap not c.if-not-rows_pass.false) in
-    record { shares = passed-shares _ _ _ _ _ _ _ _ _ p.n_nonzero.1 l valid p.passing_value _ c.useful_links.ensures cheap rows p.measure.fine; score_len = l.scores }
+    record { shares = passed-shares _ _ _ _ _ _ _ _ _ p.n_nonzero.1 l valid p.passing_value _ c.useful_links.ensures cheap rows c.args.measure.measured.fine; score_len = l.scores }
 
 pub returns : goal.returns
-returns c = let if3 = (c.if-not-rows_pass) in
-    let p = c.requires in
+returns c = let p = c.requires in
     let l = lengths _ _ p.n_nonzero.2 in
     let valid = held c.valid.ensures (ap not c.if-not-valid.false) in
     let cheap = held c.no_shortcut.ensures (ap not c.if-not-no_shortcut.false) in
-    let rows = held c.rows_pass.ensures (ap not if3.false) in
+    let rows = held c.rows_pass.ensures (ap not c.if-not-rows_pass.false) in
     c.scores_pass.ensures ∙ passed-right _ _ _ _ _ _ _ _ _ p.n_nonzero.1 l valid p.passing_value _ c.useful_links.ensures cheap rows

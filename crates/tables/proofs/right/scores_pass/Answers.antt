@@ -1,24 +1,18 @@
-use borrow.Author.Rules.{rules}
-use mathlib.Core.Path.{refl, ◌∙◌, ap}
-use mathlib.Core.Bool.{not, not-not}
-use native.Mathlib.Omega.{arith}
-use lib.Dec.{eqb}
-use lib.ListN.{get_or}
+use Rattle.std.proofs.Common.{ℕ, rules, arith, ◌≡◌, true, false, eqb, get_or, ap, ◌∙◌}
+use borrow.Author.Tests.{tests}
+use lib.ListN.{length-replicate}
+use Rattle.std.proofs.lemmas.Iterator.{cases_from_all, YieldsList-from_slice, YieldsList-from_zip}
 use Rattle.routes.specs.Route.{all_to}
-use Rattle.routes.proofs.Tests.{all_more, all_end}
+use Rattle.routes.proofs.Sums.{all-cong}
 use Rattle.cells.proofs.Sums.{summed_at}
+use Rattle.tables.proofs.Audited.{pairs-tested}
 use Rattle.tables.proofs.right.scores_pass.Goals as goal
 
-pub loop-v-init : goal.loop-v-init
-unfolding all_to
-loop-v-init c = (omega arith, refl)
-
-pub loop-v-preserved : goal.loop-v-preserved
-loop-v-preserved c = let a = c.args in
-    let l = c.loop-v in
-    let sum = c.sum_scores.new.sum in
-    let same = summed_at a.n a.share.now a.n _ c.sum_scores.ensures l.v c.loop-v-test.true in
-    (omega arith, all_more _ _ l.bad (not (eqb (get_or a.score.now l.v 0) (get_or sum l.v 0))) l.invariant.1 (not-not _ ∙ ap (eqb (get_or a.score.now l.v 0)) same))
-
 pub returns : goal.returns
-returns c = search (rules, all_end)
+returns c =
+    let a = c.args in
+    let sum = c.sum_scores.new.sum in
+    pairs-tested a.score.now sum _ (omega (arith, c.sum_scores.auto.sum, length-replicate {A = ℕ} 64 0, c.requires.score_len, c.requires.shares.most))
+    (cases_from_all c.all.new.self _ _ (λ (p : ℕ × ℕ). eqb p.0 p.1 ≡ true) (λ (p : ℕ × ℕ). eqb p.0 p.1 ≡ false) c.all.ensures.ran (YieldsList-from_zip {s = c.zip.result} (YieldsList-from_slice a.score.now (cc)) (YieldsList-from_slice sum (cc))) (λ x q k. search (rules, tests)) (λ x q k. search (rules, tests)))
+    ∙ ap (λ k. all_to k (λ v. eqb (get_or a.score.now v 0) (get_or sum v 0))) c.requires.score_len
+    ∙ all-cong a.n (λ v l. ap (eqb (get_or a.score.now v 0)) (summed_at a.n a.share.now a.n _ c.sum_scores.ensures v l))

@@ -1,48 +1,42 @@
--- `hall_of` takes the words of a line that has two: the text up to its only space, and the text behind it.
-use Rattle.std.proofs.Common.{ℕ, ◌+◌, ◌<◌, ◌≤◌, ◌≡◌, sym, ◌∙◌, cond, List, length, take, arith}
+-- `hall_of` takes the words of a line one by one: it has two, the first of them `hall`.
+use Rattle.std.proofs.Common.{rules, ◌≡◌, ◌∷◌, sym, ◌∙◌, true, false}
+use borrow.Author.Tests.{tests}
 use Rattle.routes.specs.Route.{same}
-use Rattle.words.specs.Scan.{index_of}
-use Rattle.words.specs.Text.{bytes, words, number_of, stops_of, hall_of}
-use Rattle.words.proofs.Reading.{from, word_first, word-last, word_some}
+use Rattle.words.specs.Text.{bytes, words, hall_word}
+use Rattle.words.proofs.Reading.{left, left-some, word_some, same-pointwise}
+use Rattle.words.proofs.read.hall_of.Goals.{In_ok-name, In_ok-n}
 use Rattle.words.proofs.read.hall_of.Goals as goal
 
--- a line of two words
-two : (line : List ℕ) (k j : ℕ) → k ≡ index_of 32 line → k < length line → j ≡ index_of 32 (from (k + 1) line) → length (from (k + 1) line) ≤ j →
-    hall_of (words line) ≡ cond (same (take k line) (bytes "hall")) (stops_of (number_of (from (k + 1) line))) 0
-unfolding hall_of
-two line k j e h f g = rw (word_first line k e h, word-last (from (k + 1) line) (omega (arith, f, g)))
+-- each word that is there, and what is left behind it
+name-left : (c : In_ok-name) → words c.args.line.now ≡ c.in_ok-name.name.now ∷ left c.next.new.self.done c.next.new.self.rest.now
+name-left c = rw (c.split-words.ensures.done, c.split-words.ensures.rest) at (left-some _ _ _ _ _ c.in_ok-name.ensures.steps (λ x r q k. search (rules, tests)))
 
-pub returns-then-k-line : goal.returns-then-k-line
-unfolding hall_of
-returns-then-k-line c = rw (word-last c.args.line.now (omega (arith, c.index_of-k.ensures)))
+n-left : (c : In_ok-n) → left c.next.new.self.done c.next.new.self.rest.now ≡ c.in_ok-n.n.now ∷ left c.next-2.new.self.done c.next-2.new.self.rest.now
+n-left c = left-some _ _ _ _ _ c.in_ok-n.ensures.steps (λ x r q k. search (rules, tests))
 
-pub returns-then-index_of-rest : goal.returns-then-index_of-rest
-unfolding hall_of
-returns-then-index_of-rest c =
-    let line : List ℕ = c.args.line.now in
-    let k : ℕ = c.index_of-k.result in
-    let j : ℕ = c.index_of.result in
-    let rest : List ℕ = from (k + 1) line in
-    let (w, ws, e) = word_some (from (j + 1) rest) in
-    rw (word_first line k c.index_of-k.ensures c.if-k-line.false, word_first rest j c.index_of.ensures c.if-index_of-rest.true, e)
+pub returns-in_err-n : goal.returns-in_err-n
+unfolding hall_word
+returns-in_err-n c =
+    let at = goal.at.returns-in_err-n c in
+    rw (name-left at.In_ok-name, c.in_err-n.ensures.steps.0) c.from_residual-in_err-n.ensures
 
-pub returns-then-not-same : goal.returns-then-not-same
-unfolding bytes
-returns-then-not-same c =
-    sym
-    (two c.args.line.now c.index_of-k.result c.index_of.result c.index_of-k.ensures c.if-k-line.false c.index_of.ensures c.if-index_of-rest.false ∙
-    rw (sym c.same.ensures ∙ c.if-not-same.true))
+pub returns-in-Some : goal.returns-in-Some
+unfolding hall_word
+returns-in-Some c =
+    let at = goal.at.returns-in-Some c in
+    let (w, ws, more) = word_some c.next-2.new.self.rest.now in
+    rw (name-left at.In_ok-name, n-left at.In_ok-n, c.in-Some.ensures.steps.0, more)
 
-pub returns-in-Value : goal.returns-in-Value
-unfolding bytes
-returns-in-Value c =
-    sym
-    (two c.args.line.now c.index_of-k.result c.index_of.result c.index_of-k.ensures c.if-k-line.false c.index_of.ensures c.if-index_of-rest.false ∙
-    rw (sym c.same.ensures ∙ c.if-not-same.false, sym c.number.ensures ∙ c.in-Value.is))
+pub returns-in-None : goal.returns-in-None
+unfolding hall_word bytes
+returns-in-None c =
+    let at = goal.at.returns-in-None c in
+    let is : same c.in_ok-name.name.now (bytes "hall") ≡ true = same-pointwise _ _ ∙ sym (rw c.as_slice.ensures at c.eq.ensures) ∙ c.if-eq.true in
+    rw (name-left at.In_ok-name, n-left at.In_ok-n, c.in-None.ensures.steps.0, is) c.number.ensures
 
-pub returns-in-NotNumber : goal.returns-in-NotNumber
-unfolding bytes
-returns-in-NotNumber c =
-    sym
-    (two c.args.line.now c.index_of-k.result c.index_of.result c.index_of-k.ensures c.if-k-line.false c.index_of.ensures c.if-index_of-rest.false ∙
-    rw (sym c.same.ensures ∙ c.if-not-same.false, sym c.number.ensures ∙ c.in-NotNumber.is))
+pub returns-in-None-2 : goal.returns-in-None-2
+unfolding hall_word bytes
+returns-in-None-2 c =
+    let at = goal.at.returns-in-None-2 c in
+    let is : same c.in_ok-name.name.now (bytes "hall") ≡ false = same-pointwise _ _ ∙ sym (rw c.as_slice.ensures at c.eq.ensures) ∙ c.if-eq.false in
+    rw (name-left at.In_ok-name, n-left at.In_ok-n, c.in-None.ensures.steps.0, is)

@@ -1,54 +1,49 @@
--- `line_of` cuts a line at its spaces, and takes the words of a line that has three or four.
-use Rattle.std.proofs.Common.{ℕ, ◌+◌, List, arith}
-use Rattle.words.specs.Text.{line_of}
-use Rattle.words.proofs.Reading.{from, word_first, word-last, word_some}
+-- `line_of` takes the words of a line one by one: it has three or four.
+use Rattle.std.proofs.Common.{rules, ◌≡◌, ◌∷◌}
+use borrow.Author.Tests.{tests}
+use Rattle.words.specs.Text.{words, line_of}
+use Rattle.words.proofs.Reading.{left, left-some, word_some}
+use Rattle.words.proofs.read.line_of.Goals.{In_ok-kind, In_ok-u, In_ok-v, In-Some}
 use Rattle.words.proofs.read.line_of.Goals as goal
 
-pub returns-then-k-line : goal.returns-then-k-line
+-- each word that is there, and what is left behind it
+kind-left : (c : In_ok-kind) → words c.args.line.now ≡ c.in_ok-kind.kind.now ∷ left c.next.new.self.done c.next.new.self.rest.now
+kind-left c = rw (c.split-words.ensures.done, c.split-words.ensures.rest) at (left-some _ _ _ _ _ c.in_ok-kind.ensures.steps (λ x r q k. search (rules, tests)))
+
+u-left : (c : In_ok-u) → left c.next.new.self.done c.next.new.self.rest.now ≡ c.in_ok-u.u.now ∷ left c.next-2.new.self.done c.next-2.new.self.rest.now
+u-left c = left-some _ _ _ _ _ c.in_ok-u.ensures.steps (λ x r q k. search (rules, tests))
+
+v-left : (c : In_ok-v) → left c.next-2.new.self.done c.next-2.new.self.rest.now ≡ c.in_ok-v.v.now ∷ left c.next-3.new.self.done c.next-3.new.self.rest.now
+v-left c = left-some _ _ _ _ _ c.in_ok-v.ensures.steps (λ x r q k. search (rules, tests))
+
+cost-left : (c : In-Some) → left c.next-3.new.self.done c.next-3.new.self.rest.now ≡ c.in-Some.cost.now ∷ left c.next-4.new.self.done c.next-4.new.self.rest.now
+cost-left c = left-some _ _ _ _ _ c.in-Some.ensures.steps (λ x r q k. search (rules, tests))
+
+pub returns-in_err-u : goal.returns-in_err-u
 unfolding line_of
-returns-then-k-line c = rw (word-last c.args.line.now (omega (arith, c.index_of-k.ensures)))
+returns-in_err-u c =
+    let at = goal.at.returns-in_err-u c in
+    rw (kind-left at.In_ok-kind, c.in_err-u.ensures.steps.0) c.from_residual-in_err-u.ensures
 
-pub returns-then-u-first : goal.returns-then-u-first
+pub returns-in_err-v : goal.returns-in_err-v
 unfolding line_of
-returns-then-u-first c =
-    let line : List ℕ = c.args.line.now in
-    let k : ℕ = c.index_of-k.result in
-    rw (word_first line k c.index_of-k.ensures c.if-k-line.false, word-last (from (k + 1) line) (omega (arith, c.index_of-u.ensures)))
+returns-in_err-v c =
+    let at = goal.at.returns-in_err-v c in
+    rw (kind-left at.In_ok-kind, u-left at.In_ok-u, c.in_err-v.ensures.steps.0) c.from_residual-in_err-v.ensures
 
-pub returns-then-v-second : goal.returns-then-v-second
-returns-then-v-second c =
-    let line : List ℕ = c.args.line.now in
-    let k : ℕ = c.index_of-k.result in
-    let u : ℕ = c.index_of-u.result in
-    let first : List ℕ = from (k + 1) line in
-    rw
-    (word_first line k c.index_of-k.ensures c.if-k-line.false, word_first first u c.index_of-u.ensures c.if-u-first.false, word-last (from (u + 1) first) (omega (arith, c.index_of-v.ensures)))
-    c.line_of_three.ensures
+pub returns-in_default : goal.returns-in_default
+returns-in_default c =
+    let at = goal.at.returns-in_default c in
+    rw (kind-left at.In_ok-kind, u-left at.In_ok-u, v-left at.In_ok-v, c.in_default.ensures.steps.0) c.line_of_three.ensures
 
-pub returns-then-index_of-third : goal.returns-then-index_of-third
+pub returns-in-Some-next : goal.returns-in-Some-next
 unfolding line_of
-returns-then-index_of-third c =
-    let line : List ℕ = c.args.line.now in
-    let k : ℕ = c.index_of-k.result in
-    let u : ℕ = c.index_of-u.result in
-    let v : ℕ = c.index_of-v.result in
-    let j : ℕ = c.index_of.result in
-    let first : List ℕ = from (k + 1) line in
-    let second : List ℕ = from (u + 1) first in
-    let third : List ℕ = from (v + 1) second in
-    let (w, ws, e) = word_some (from (j + 1) third) in
-    rw
-    (word_first line k c.index_of-k.ensures c.if-k-line.false, word_first first u c.index_of-u.ensures c.if-u-first.false, word_first second v c.index_of-v.ensures c.if-v-second.false, word_first third j c.index_of.ensures c.if-index_of-third.true, e)
+returns-in-Some-next c =
+    let at = goal.at.returns-in-Some-next c in
+    let (w, ws, more) = word_some c.next-4.new.self.rest.now in
+    rw (kind-left at.In_ok-kind, u-left at.In_ok-u, v-left at.In_ok-v, cost-left at.In-Some, c.in-Some-next.ensures.steps.0, more)
 
-pub returns : goal.returns
-returns c =
-    let line : List ℕ = c.args.line.now in
-    let k : ℕ = c.index_of-k.result in
-    let u : ℕ = c.index_of-u.result in
-    let v : ℕ = c.index_of-v.result in
-    let first : List ℕ = from (k + 1) line in
-    let second : List ℕ = from (u + 1) first in
-    let third : List ℕ = from (v + 1) second in
-    rw
-    (word_first line k c.index_of-k.ensures c.if-k-line.false, word_first first u c.index_of-u.ensures c.if-u-first.false, word_first second v c.index_of-v.ensures c.if-v-second.false, word-last third (omega (arith, c.index_of.ensures)))
-    c.line_of_four.ensures
+pub returns-in-None : goal.returns-in-None
+returns-in-None c =
+    let at = goal.at.returns-in-None c in
+    rw (kind-left at.In_ok-kind, u-left at.In_ok-u, v-left at.In_ok-v, cost-left at.In-Some, c.in-None.ensures.steps.0) c.line_of_four.ensures
