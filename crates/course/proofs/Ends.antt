@@ -3,13 +3,13 @@ use Rattle.std.specs.Prelude.{Ok, Err}
 use Rattle.std.proofs.lemmas.List.{append_assoc}
 use Prim.Native.Nat.{ℕ, ◌+◌, ◌<◌}
 use mathlib.Core.Path.{◌≡◌, refl, sym, ◌∙◌, ap, subst}
-use mathlib.Core.Bool.{true, cond, ◌||◌, and-eq-true_iff}
+use mathlib.Core.Bool.{Bool, true, false, cond, ◌||◌, and-eq-true_iff}
 use mathlib.Core.List.{List, [], ◌∷◌, ◌++◌}
 use native.Mathlib.Omega.{arith}
 use lib.Count.{ones}
-use lib.Dec.{ltb}
+use lib.Dec.{eqb, ltb}
 use lib.ListN.{length}
-use borrow.Author.Tests.{ltb-true}
+use borrow.Author.Tests.{eqb-true, ltb-true}
 use Rattle.routes.specs.Route.{has, set_of}
 use Rattle.routes.proofs.Bits.{has-set_of, ones-set_of}
 use Rattle.book.specs.Hall.{Tables, most_ways, scale, filled, sized, Layout}
@@ -27,10 +27,10 @@ use Rattle.book.proofs.Sets.{member, row_same}
 use Rattle.book.proofs.Places.{none_told, edit-tells}
 use Rattle.book.proofs.Lists.{list-stays}
 use Rattle.course.specs.declared.Course.{Course}
-use Rattle.course.specs.Promise.{admits, undo, Undoes}
+use Rattle.course.specs.Promise.{admits, kept, undo, undone, restored, Undoes}
 use Rattle.course.proofs.Rows.{row-of}
 use Rattle.course.proofs.Verdicts.{admits-none, judged-stays, list-refusal}
-use Rattle.course.proofs.Standing.{Running, running-audited, judged-next}
+use Rattle.course.proofs.Standing.{Running, running-audited, judged-next, edit-kept}
 
 -- tables have their lengths whatever their layout, as long as it has its own
 sized-with : (n : ℕ) (t : Tables) (lay : Layout) → length lay.cost ≡ length t.layout.cost → length lay.passing ≡ length t.layout.passing →
@@ -46,7 +46,7 @@ module _ (n : ℕ) (start : Tables) (made : List Edit) (c : Course) (t : Tables)
   member_of s l = rw r.union (member n (touched_by n made start.layout) s l)
 
   -- the edits that were made can be put back
-  pub can-undo : Undoes n c.touched c.changes.items t
+  pub can-undo : Undoes n c.touched (kept c) t
   can-undo =
       let a = running-audited n start made c t r in
       let square : length start.layout.cost ≡ length t.layout.cost = r.held.square ∙ sym (sized-cost n t a.inside.lengths) in
@@ -65,8 +65,20 @@ module _ (n : ℕ) (start : Tables) (made : List Edit) (c : Course) (t : Tables)
       }
 
   -- and put back they are as they were
-  pub back-again : filled scale most_ways n (undo c.changes.items t.layout) ≡ start
+  pub back-again : filled scale most_ways n (undo (kept c) t.layout) ≡ start
   back-again = ap (filled scale most_ways n) r.back ∙ r.begins
+
+  -- where none was made they are so already
+  pub restored-start : restored n c t ≡ start
+  unfolding undone filled
+  restored-start = go (eqb c.done 0) refl
+    where
+      go : (none : Bool) → eqb c.done 0 ≡ none → cond none t (filled scale most_ways n (undo (kept c) t.layout)) ≡ start
+      go true none =
+          let empty : c.done ≡ 0 = eqb-true c.done 0 none in
+          let first : t.layout ≡ start.layout = rw empty at r.back in
+          r.now ∙ ap (filled scale most_ways n) (sym (ap (λ x. x.layout) r.now) ∙ first) ∙ r.begins
+      go false some = back-again
 
 -- refused before its first edit
 pub list-shut : (n : ℕ) (list : List Edit) (start : Tables) (refusal : Refusal) → Err refusal ≡ admits n (length list) start →
@@ -88,13 +100,16 @@ module _ (n : ℕ) (list : List Edit) (start : Tables) (let_in : admits n (lengt
   told : refusal call start ≡ (judged n 1 list start.layout).refusal
   told = list-refusal n list start ∙ rw let_in refl
 
-  -- refused at the next edit
+  -- refused at the next edit, and put back
   pub list-stopped : (e : Edit) (rest : List Edit) → list ≡ made ++ e ∷ rest → (t' : Tables) (refusal : Refusal) →
-      Done (record { n = n; ask = edit e }) t t' (of_edit (Err refusal)) → Done call start start (of_list (Err (record { refusal = refusal; place = length made + 1 })))
+      Done (record { n = n; ask = edit e }) t t' (of_edit (Err refusal)) → Done call start (restored n c t') (of_list (Err (record { refusal = refusal; place = length made + 1 })))
   unfolding rule
   list-stopped e rest same t' shut d =
-      subst (λ k. Done call start start (refused_at (Err shut) k [])) place (refused-done call start (Err shut) (told ∙ ap (λ v. v.refusal) verdict) refl)
+      rw back (subst (λ k. Done call start start (refused_at (Err shut) k [])) place (refused-done call start (Err shut) (told ∙ ap (λ v. v.refusal) verdict) refl))
     where
+      back : restored n c t' ≡ start
+      back = rw (edit-kept n e t t' (Err shut) d refl) (restored-start n start made c t r)
+
       first : judged n 1 (made ++ e ∷ []) start.layout ≡ record { refusal = Err shut; place = 1 + length made }
       first = judged-next n start made c t r e t' (Err shut) d
 
@@ -124,6 +139,6 @@ pub list_done : (n : ℕ) (list : List Edit) (start : Tables) → let call : Cal
     ((refusal : Refusal) → Err refusal ≡ admits n (length list) start → Done call start start (of_list (Err (without_place refusal)))) ×
     (admits n (length list) start ≡ Accepted → (made : List Edit) (c : Course) (t : Tables) → Running n start made c t →
     ((e : Edit) (rest : List Edit) → list ≡ made ++ e ∷ rest → (t' : Tables) (refusal : Refusal) → Done (record { n = n; ask = edit e }) t t' (of_edit (Err refusal)) →
-    Done call start start (of_list (Err (record { refusal = refusal; place = length made + 1 })))) ×
+    Done call start (restored n c t') (of_list (Err (record { refusal = refusal; place = length made + 1 })))) ×
     (made ≡ list → Done call start t (of_list (Ok (record { touched = c.touched; rows = ones c.touched })))))
 list_done n list start = (list-shut n list start, λ let_in made c t r. (list-stopped n list start let_in made c t r, list-taken n list start let_in made c t r))

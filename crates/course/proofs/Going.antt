@@ -1,6 +1,6 @@
 -- The loop over a list of edits, whatever form the list comes in: `gives i e` says that its edit at the place i is e. It begins, goes on
 -- with the next edit, stops at a refused one, and ends with the list done. Assumes nothing.
-use Rattle.std.specs.Prelude.{◌==◌, true, Result, Ok, Err}
+use Rattle.std.specs.Prelude.{Result, Ok, Err}
 use Rattle.std.proofs.lemmas.List.{ext_get_or, get_or_append_left, get_or-take, take-append-drop}
 use Rattle.std.proofs.Math.Seq.{get_or-append_seam, drop-cons}
 use Prim.Native.Nat.{ℕ, suc, ◌+◌, ◌<◌, ◌≤◌}
@@ -10,11 +10,10 @@ use mathlib.Core.Logic.{⊎_elim}
 use native.Mathlib.Nat.{eq-or-lt_of_le}
 use native.Mathlib.Omega.{arith}
 use lib.Count.{ones}
-use borrow.Author.Tests.{eqb-true}
 use lib.ListN.{length, get_or, take, drop, length-append}
 use lib.Seq.{length-take-le, take_all}
 use Rattle.routes.proofs.Booleans.{both}
-use Rattle.book.specs.Hall.{Tables, most_ways, scale, filled}
+use Rattle.book.specs.Hall.{Tables}
 use Rattle.book.specs.Call.{Accepted, accepted, edit, edit_list, Done}
 use Rattle.book.specs.Contract.{SameLoans, of_edit, of_list, Audited}
 use Rattle.book.specs.declared.Edit.{Edit}
@@ -22,11 +21,10 @@ use Rattle.book.specs.declared.Kind.TheVariants.{Insert}
 use Rattle.book.specs.declared.Edited.{Edited}
 use Rattle.book.specs.declared.Refusal.{Refusal}
 use Rattle.book.specs.declared.lent.LentMut.{LentMut}
-use Rattle.course.specs.declared.Change.{Change}
 use Rattle.course.specs.declared.Course.{Course}
-use Rattle.course.specs.Promise.{admits, Lists, Noted, outcome_of, Turned, undo, undone, Undoes}
+use Rattle.course.specs.Promise.{admits, Lists, kept, Noted, outcome_of, Turned, restored, Undoes}
 use Rattle.course.proofs.Standing.{Running, running-audited, running-begins, running-next, edit-kept}
-use Rattle.course.proofs.Ends.{can-undo, back-again, list-stopped, list-taken}
+use Rattle.course.proofs.Ends.{can-undo, list_done}
 
 -- the first i edits were made, each accepted
 pub record Going (n : ℕ) (gives : ℕ → Edit → Type 0) (start : Tables) (i : ℕ) (c : Course) (t : Tables) : Type 0 where
@@ -39,11 +37,6 @@ pub record Going (n : ℕ) (gives : ℕ → Edit → Type 0) (start : Tables) (i
 pub loans_on : {a b c : LentMut} → SameLoans a b → SameLoans b c → SameLoans a c
 loans_on p q = record { cost = q.cost ∙ p.cost; passing = q.passing ∙ p.passing; time = q.time ∙ p.time; ways = q.ways ∙ p.ways; share = q.share ∙ p.share; score = q.score ∙ p.score }
 
--- a course without changes
-pub no-changes : (changes : List Change) → (length changes == 0) ≡ true → changes ≡ []
-no-changes [] e = refl
-no-changes (c ∷ changes) e = absurd (omega (arith, eqb-true (length (c ∷ changes)) 0 e))
-
 -- what a turn came to
 accepted_turn : {n : ℕ} {e : Edit} {c c' : Course} {t t' : Tables} → Turned n e c c' t t' Accepted →
     (a : Edited) × Done (record { n = n; ask = edit e }) t t' (of_edit (Ok a)) × Noted n e (Ok a) c c'
@@ -55,23 +48,23 @@ accepted_turn {n} {e} {c} {c'} {t} {t'} turn = go turn.answer turn.done turn.tol
     go (Err r) d told noted = absurd (both refl (ap accepted told))
 
 refused_turn : {n : ℕ} {e : Edit} {c c' : Course} {t t' : Tables} (r : Refusal) → Turned n e c c' t t' (Err r) →
-    Done (record { n = n; ask = edit e }) t t' (of_edit (Err r)) × Noted n e (Err r) c c'
+    Done (record { n = n; ask = edit e }) t t' (of_edit (Err r)) × (c' ≡ c)
 unfolding Noted
 refused_turn {n} {e} {c} {c'} {t} {t'} r turn = go turn.answer turn.done turn.told turn.noted
   where
     go : (a : Result Edited Refusal) → Done (record { n = n; ask = edit e }) t t' (of_edit a) → Err r ≡ outcome_of a → Noted n e a c c' →
-        Done (record { n = n; ask = edit e }) t t' (of_edit (Err r)) × Noted n e (Err r) c c'
+        Done (record { n = n; ask = edit e }) t t' (of_edit (Err r)) × (c' ≡ c)
     go (Ok a) d told noted = absurd (both refl (sym (ap accepted told)))
     go (Err x) d told noted = (rw told d, noted)
 
 module _ (n : ℕ) (gives : ℕ → Edit → Type 0) (start : Tables) where
-  pub going-begins : (long : ℕ) (c : Course) → Accepted ≡ admits n long start → c.touched ≡ 0 → c.changes.items ≡ [] → Going n gives start 0 c start
+  pub going-begins : (long : ℕ) (c : Course) → Accepted ≡ admits n long start → c.touched ≡ 0 → c.done ≡ 0 → Going n gives start 0 c start
   going-begins long c let_in none empty =
       record { made = []; many = refl; given = λ k l. absurd (omega arith); running = running-begins n long start c (ap accepted (sym let_in)) none empty }
 
   module _ (i : ℕ) (c : Course) (t : Tables) (g : Going n gives start i c t) where
     -- what a turn asks
-    pub going-open : Audited n t × (length c.changes.items ≡ i)
+    pub going-open : Audited n t × (c.done ≡ i)
     going-open = (running-audited n start g.made c t g.running, g.running.many ∙ g.many)
 
     module _ (e : Edit) (gave : gives i e) (c' : Course) (t' : Tables) where
@@ -88,26 +81,11 @@ module _ (n : ℕ) (gives : ℕ → Edit → Type 0) (start : Tables) where
           upto : (k : ℕ) → k < i + 1 → k ≤ i
           upto k l = omega arith
 
-      -- a refused one: its predecessors can be put back, and then the list is done
-      module _ (r : Refusal) (turn : Turned n e c c' t t' (Err r)) where
-        stays : (t' ≡ t) × (c'.touched ≡ c.touched) × (c'.changes.items ≡ c.changes.items)
-        unfolding Noted
-        stays = let (d, noted) = refused_turn r turn in (edit-kept n e t t' (Err r) d refl, noted.0, noted.1)
-
-        pub going-undoes : Undoes n c'.touched c'.changes.items t'
-        going-undoes = rw (stays.0, stays.1, stays.2) (can-undo n start g.made c t g.running)
-
-        pub going-back : filled scale most_ways n (undo c'.changes.items t'.layout) ≡ start
-        going-back = rw (stays.0, stays.2) (back-again n start g.made c t g.running)
-
-        -- where none was made they are as they were
-        pub going-idle : c'.changes.items ≡ [] → t' ≡ start
-        unfolding undone filled
-        going-idle none =
-            let r = g.running in
-            let empty : c.changes.items ≡ [] = sym stays.2 ∙ none in
-            let first : t.layout ≡ start.layout = rw empty at r.back in
-            stays.0 ∙ r.now ∙ ap (filled scale most_ways n) (sym (ap (λ x. x.layout) r.now) ∙ first) ∙ r.begins
+      -- a refused one: its predecessors can be put back
+      pub going-undoes : (r : Refusal) → Turned n e c c' t t' (Err r) → (c'.done ≡ i) × Undoes n c'.touched (kept c') t'
+      going-undoes r turn =
+          let (d, same) = refused_turn r turn in
+          rw (same, edit-kept n e t t' (Err r) d refl) (going-open.1, can-undo n start g.made c t g.running)
 
   -- the edits that were made are the first of any list that is given so
   module _ (i : ℕ) (c : Course) (t : Tables) (g : Going n gives start i c t) (many : ℕ) (edits : List Edit) (l : Lists gives many edits) (within : i ≤ many) where
@@ -119,11 +97,12 @@ module _ (n : ℕ) (gives : ℕ → Edit → Type 0) (start : Tables) where
         none : Edit
         none = record { kind = Insert; u = 0; v = 0; cost = 0 }
 
-    -- refused at the next one
+    -- refused at the next one, and put back
     pub going-stops : (e : Edit) → i < many → gives i e → (c' : Course) (t' : Tables) (r : Refusal) → Turned n e c c' t t' (Err r) → Accepted ≡ admits n many start →
-        Done (record { n = n; ask = edit_list edits }) start start (of_list (Err (record { refusal = r; place = i + 1 })))
+        Done (record { n = n; ask = edit_list edits }) start (restored n c' t') (of_list (Err (record { refusal = r; place = i + 1 })))
     going-stops e next gave c' t' r turn let_in =
-        rw (← g.many) (list-stopped n edits start (sym (rw (← l.long) at let_in)) g.made c t g.running e (drop (i + 1) edits) whole t' r (refused_turn r turn).0)
+        let (d, same) = refused_turn r turn in
+        rw (same, ← g.many) (((list_done n edits start).1 (sym (rw (← l.long) at let_in)) g.made c t g.running).0 e (drop (i + 1) edits) whole t' r d)
       where
         whole : edits ≡ g.made ++ e ∷ drop (i + 1) edits
         whole =
@@ -134,4 +113,4 @@ module _ (n : ℕ) (gives : ℕ → Edit → Type 0) (start : Tables) where
     -- and behind the last one
     pub going-ends : i ≡ many → Accepted ≡ admits n many start →
         Done (record { n = n; ask = edit_list edits }) start t (of_list (Ok (record { touched = c.touched; rows = ones c.touched })))
-    going-ends last let_in = list-taken n edits start (sym (rw (← l.long) at let_in)) g.made c t g.running (front ∙ take_all i edits (omega (arith, l.long)))
+    going-ends last let_in = ((list_done n edits start).1 (sym (rw (← l.long) at let_in)) g.made c t g.running).1 (front ∙ take_all i edits (omega (arith, l.long)))

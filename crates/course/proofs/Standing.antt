@@ -27,7 +27,7 @@ use Rattle.book.proofs.Answers.{done-refusal}
 use Rattle.book.proofs.Doors.{behind-audit}
 use Rattle.book.proofs.Steps.{Held, held-right, held-list, held-audited}
 use Rattle.course.specs.declared.Course.{Course}
-use Rattle.course.specs.Promise.{admits, change_of, Noted, IsInside, undo, undone}
+use Rattle.course.specs.Promise.{admits, kept, change_of, Noted, IsInside, undo, undone}
 use Rattle.course.proofs.Unions.{set_of-or, set_of-none}
 use Rattle.course.proofs.Undone.{undone-more}
 use Rattle.course.proofs.Verdicts.{with_edits-more, touched_by-more, judged-more}
@@ -36,12 +36,12 @@ use Rattle.course.proofs.Verdicts.{with_edits-more, touched_by-more, judged-more
 pub record Running (n : ℕ) (start : Tables) (made : List Edit) (c : Course) (t : Tables) : Type 0 where
   pub held : Held n start.layout
   pub begins : filled scale most_ways n start.layout ≡ start
-  pub many : length c.changes.items ≡ length made
+  pub many : c.done ≡ length made
   pub taken : accepted (judged n 1 made start.layout).refusal ≡ true
   pub now : t ≡ filled scale most_ways n (with_edits n made start.layout)
   pub union : c.touched ≡ set_of n (touched_by n made start.layout)
-  pub inside : IsInside (n * n) c.changes.items
-  pub back : undo c.changes.items t.layout ≡ start.layout
+  pub inside : IsInside (n * n) (kept c)
+  pub back : undo (kept c) t.layout ≡ start.layout
 
 pub running-audited : (n : ℕ) (start : Tables) (made : List Edit) (c : Course) (t : Tables) → Running n start made c t → Audited n t
 running-audited n start made c t r =
@@ -55,7 +55,7 @@ admitted n long t ok =
     (record { inside = record { size = size; lengths = lengths; passable = passable }; sound = sound }, leb-true long most_edits short)
 
 -- before the first edit
-pub running-begins : (n long : ℕ) (t : Tables) (c : Course) → accepted (admits n long t) ≡ true → c.touched ≡ 0 → c.changes.items ≡ [] → Running n t [] c t
+pub running-begins : (n long : ℕ) (t : Tables) (c : Course) → accepted (admits n long t) ≡ true → c.touched ≡ 0 → c.done ≡ 0 → Running n t [] c t
 unfolding run judged undone touched_by filled
 running-begins n long t c ok none empty =
     let a = (admitted n long t ok).0 in
@@ -63,7 +63,7 @@ running-begins n long t c ok none empty =
     record {
       held = held-right n t a.inside.size a.inside.lengths a.inside.passable a.sound;
       begins = filling;
-      many = ap length empty;
+      many = empty;
       taken = refl;
       now = sym filling;
       union = none ∙ sym (set_of-none n);
@@ -158,24 +158,24 @@ module _ (n : ℕ) (start : Tables) (made : List Edit) (c : Course) (t : Tables)
       set_of-or n (touched_by n made start.layout) (touched n (with_edits n made start.layout) (with_edit n e (with_edits n made start.layout)) e.u e.v) ∙
       ap (set_of n) (λ i s. sym (touched_by-more n made e start.layout s) i)
 
-  changes : c'.changes.items ≡ c.changes.items ++ change_of n e a ∷ []
+  changes : (c'.done ≡ c.done + 1) × (kept c' ≡ kept c ++ change_of n e a ∷ [])
   unfolding Noted
-  changes = noted.1
+  changes = (noted.1, noted.2)
 
   -- and its change takes it back
-  taken_back : undo (c.changes.items ++ change_of n e a ∷ []) t'.layout ≡ start.layout
+  taken_back : undo (kept c ++ change_of n e a ∷ []) t'.layout ≡ start.layout
   taken_back =
       let before : a.before ≡ get_or t.layout.cost spot 0 = ap (λ x. x.before) told in
-      rw (left-layout, before) (ap (λ x. laid x t.layout.passing) (undone-more c.changes.items t.layout.cost spot (cost_set e.kind e.cost)) ∙ r.back)
+      rw (left-layout, before) (ap (λ x. laid x t.layout.passing) (undone-more (kept c) t.layout.cost spot (cost_set e.kind e.cost)) ∙ r.back)
 
   pub running-next : Running n start (made ++ e ∷ []) c' t'
   running-next = record {
     held = r.held;
     begins = r.begins;
-    many = rw changes (simp length-append (omega (arith, r.many)));
+    many = simp length-append (omega (arith, changes.0, r.many));
     taken = rw (judged-next n start made c t r e t' (Ok a) d) refl;
     now = left ∙ ap (filled scale most_ways n) (ap (with_edit n e) same-layout ∙ sym (with_edits-more n made e start.layout));
     union = joined;
-    inside = rw changes (All-append (λ c. c.spot < n * n) c.changes.items (change_of n e a ∷ []) r.inside (All-cons (λ c. c.spot < n * n) (change_of n e a) [] (flat-lt n e.u e.v (stops n r.held.size).1 p.from p.to).0 (λ i d l. absurd (omega arith))));
-    back = rw changes taken_back;
+    inside = rw changes.1 (All-append (λ c. c.spot < n * n) (kept c) (change_of n e a ∷ []) r.inside (All-cons (λ c. c.spot < n * n) (change_of n e a) [] (flat-lt n e.u e.v (stops n r.held.size).1 p.from p.to).0 (λ i d l. absurd (omega arith))));
+    back = rw changes.1 taken_back;
   }

@@ -1,9 +1,9 @@
 -- What the parts of a list of edits promise: its tests, the turn of an edit, and the way back. Assumes nothing.
-use Rattle.std.specs.Prelude.{ℕ, ◌+◌, ◌*◌, ◌<◌, ◌≡◌, true, false, List, [], ◌∷◌, ◌++◌, Result, Ok, Err, leb, length, get_or, set}
+use Rattle.std.specs.Prelude.{ℕ, ◌+◌, ◌*◌, ◌<◌, ◌≡◌, true, false, cond, List, [], ◌∷◌, ◌++◌, Result, Ok, Err, eqb, leb, length, get_or, set, take}
 use Rattle.std.specs.Int.Bits.{bit_or}
 use Rattle.std.specs.List.{All}
 use Rattle.routes.specs.Route.{has}
-use Rattle.book.specs.Hall.{Layout, laid, Tables, most_stops, most_ways, most_edits, scale, up_to, costs_in, sized, valid_costs, valid_passing, right}
+use Rattle.book.specs.Hall.{Layout, laid, Tables, most_stops, most_ways, most_edits, scale, up_to, costs_in, filled, sized, valid_costs, valid_passing, right}
 use Rattle.book.specs.Call.{Outcome, Accepted, need, chain, edit, with_layout, Done}
 use Rattle.book.specs.Contract.{of_edit}
 use Rattle.book.specs.declared.Edit.{Edit}
@@ -27,10 +27,14 @@ pub record Lists (gives : ℕ → Edit → Type 0) (many : ℕ) (edits : List Ed
 abbrev pub change_of : ℕ → Edit → Edited → Change
 change_of n e a = record { spot = e.u * n + e.v; cost = a.before }
 
+-- the changes that a course keeps: the first of its room
+abbrev pub kept : Course → List Change
+kept c = take c.done c.changes
+
 -- the course after an edit with this answer: accepted, its sources join and its change is kept; refused, nothing is noted
 unfoldable pub Noted : ℕ → Edit → Result Edited Refusal → Course → Course → Type 0
-Noted n e (Ok a) c c' = (c'.touched ≡ bit_or c.touched a.touched) × (c'.changes.items ≡ c.changes.items ++ change_of n e a ∷ [])
-Noted n e (Err r) c c' = (c'.touched ≡ c.touched) × (c'.changes.items ≡ c.changes.items)
+Noted n e (Ok a) c c' = (c'.touched ≡ bit_or c.touched a.touched) × (c'.done ≡ c.done + 1) × (kept c' ≡ kept c ++ change_of n e a ∷ [])
+Noted n e (Err r) c c' = c' ≡ c
 
 abbrev pub outcome_of : Result Edited Refusal → Outcome
 outcome_of (Ok a) = Accepted
@@ -62,6 +66,10 @@ pub record RightOutside (n sources : ℕ) (t : Tables) : Type 0 where
   pub passable : valid_passing n t.layout.passing ≡ true
   pub below : (s : ℕ) → has sources s ≡ true → s < n
   pub rows : (s : ℕ) → s < n → has sources s ≡ false → parts n t.time t.ways t.share s ≡ row_of most_ways scale (costs_in n t.layout s) n s
+
+-- what a refused list leaves: the tables as they are where no edit was made, else those of the costs before the changes
+abbrev pub restored : ℕ → Course → Tables → Tables
+restored n c t = cond (eqb c.done 0) t (filled scale most_ways n (undo (kept c) t.layout))
 
 -- what putting back asks: the changes lie inside the cost table, and with the costs before them the tables are as said
 pub record Undoes (n sources : ℕ) (changes : List Change) (t : Tables) : Type 0 where

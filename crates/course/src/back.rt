@@ -1,12 +1,11 @@
 // A refused list is put back: the costs that its edits set, the last one first, and then the rows that they touched.
-ghost use Rattle.std.specs.Prelude.{◌≡◌, ◌<◌, length};
+ghost use Rattle.std.specs.Prelude.{◌≡◌, ◌<◌, ◌≤◌, length};
 ghost use Rattle.std.specs.List.{All};
-ghost use Rattle.book.specs.Hall.{most_ways, scale, filled};
+ghost use Rattle.book.specs.Hall.{most_ways, most_edits, scale, filled};
 ghost use Rattle.book.specs.Contract.{these, left, found_layout, held, SameLoans};
-ghost use Rattle.course.specs.Promise.{undone, undo, RightOutside, Undoes, IsInside};
+ghost use Rattle.course.specs.Promise.{kept, undone, undo, RightOutside, Undoes, IsInside};
 
 use super::{Change, Course};
-use arrayvec::ArrayVec;
 use book::lent::LentMut;
 use cells::scores;
 use links::masks::all_links;
@@ -14,12 +13,11 @@ use links::network::Network;
 use tables::{measures, rows};
 
 // The costs before the changes.
-fn put_costs(changes: ArrayVec<Change, 32>, cost: &mut [u32])
-    requires { IsInside (length cost.old) changes.items }
-    ensures { cost.new ≡ undone changes.items cost.old }
+fn put_costs(changes: &[Change], cost: &mut [u32])
+    requires { IsInside (length cost.old) changes.now }
+    ensures { cost.new ≡ undone changes.now cost.old }
 {
-    let mut changes = changes;
-    while let Some(change) = changes.pop() {
+    for change in changes.iter().rev() {
         cost[change.spot as usize] = change.cost;
     }
 }
@@ -54,12 +52,13 @@ fn put_rows(
 
 // The tables of before the list.
 pub fn put_back(n: usize, course: Course, t: &mut LentMut<'_>)
-    requires { Undoes n course.touched course.changes.items (held t.old) }
+    requires room { course.done ≤ most_edits }
+    requires undoes { Undoes n course.touched (kept course) (held t.old) }
     ensures loans { SameLoans t.old t.new }
-    ensures tables { held t.new ≡ filled scale most_ways n (undo course.changes.items (held t.old).layout) }
+    ensures tables { held t.new ≡ filled scale most_ways n (undo (kept course) (held t.old).layout) }
 {
     let set = course.touched;
-    put_costs(course.changes, t.cost);
+    put_costs(&course.changes[..course.done], t.cost);
     let passing = t.passing;
     put_rows(n, set, t.cost, passing, t.time, t.ways, t.share, t.score);
 }

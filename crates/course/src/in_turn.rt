@@ -1,14 +1,14 @@
 // The loop over a list of edits.
-ghost use Rattle.std.specs.Prelude.{◌≡◌, ℕ, List, ◌<◌};
+ghost use Rattle.std.specs.Prelude.{◌≡◌, ℕ, List, ◌<◌, ◌≤◌};
+ghost use Rattle.book.specs.Hall.{most_edits};
 ghost use Rattle.book.specs.Call.{edit_list, Done};
 ghost use Rattle.book.specs.Contract.{seen, held, SameLoans, of_list};
 ghost use Rattle.book.specs.declared.Edit.{Edit};
-ghost use Rattle.course.specs.Promise.{admits, Lists};
+ghost use Rattle.course.specs.Promise.{admits, kept, Lists, restored, Undoes};
 
-use super::Course;
 use super::back::put_back;
 use super::turn::turn;
-use arrayvec::ArrayVec;
+use super::{Change, Course};
 use book::lent::{Lent, LentMut};
 use book::limits::Hall;
 use book::{Edit, ListEdited, ListRefused, Refusal};
@@ -23,6 +23,18 @@ fn admit(n: u64, length: usize, t: &Lent<'_>) -> Result<(), Refusal>
         return Err(Refusal::ListTooLong);
     }
     Ok(())
+}
+
+// The tables of before a refused list: put back, unless no edit was made.
+fn restore(n: u64, course: Course, t: &mut LentMut<'_>)
+    requires room { course.done ≤ most_edits }
+    requires undoes { Undoes n course.touched (kept course) (held t.old) }
+    ensures loans { SameLoans t.old t.new }
+    ensures tables { held t.new ≡ restored n course (held t.old) }
+{
+    if course.done > 0 {
+        put_back(n as usize, course, t);
+    }
 }
 
 // A list of so many edits, each as `edit_at` gives it by its place, over which the loop goes: an edit that is refused is told by its place.
@@ -40,14 +52,13 @@ pub fn edit_each<F: Fn(usize) -> Edit>(
     admit(n, length, &t.view())?;
     let mut course = Course {
         touched: 0,
-        changes: ArrayVec::new(),
+        done: 0,
+        changes: [Change::default(); 32],
     };
     for i in 0..length {
         let e = edit_at(i);
         if let Err(refusal) = turn(n, e, &mut course, t) {
-            if !course.changes.is_empty() {
-                put_back(n as usize, course, t);
-            }
+            restore(n, course, t);
             return Err(ListRefused {
                 refusal,
                 place: i as u32 + 1,

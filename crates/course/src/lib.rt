@@ -6,7 +6,6 @@ mod back;
 mod in_turn;
 mod turn;
 
-use arrayvec::ArrayVec;
 pub use in_turn::edit_each;
 
 // A change of the cost table: where, and the cost before it.
@@ -16,9 +15,11 @@ pub struct Change {
     pub cost: u32,
 }
 
-// What the edits so far came to: the sources that they touched, and their changes, to put them back.
-#[derive(Drop)]
+// What the edits so far came to: the sources that they touched, and their changes, to put them back. The changes are the first `done` of an
+// array, and no ArrayVec, since a course is copied.
+#[derive(Clone, Copy)]
 pub struct Course {
     pub touched: u64,
-    pub changes: ArrayVec<Change, 32>,
+    pub done: usize,
+    pub changes: [Change; 32],
 }

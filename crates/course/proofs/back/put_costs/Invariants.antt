@@ -5,7 +5,5 @@ use Rattle.course.proofs.back.put_costs.Given as goal
 
 abbrev pub invariant-loop-change : goal.invariant-loop-change
 invariant-loop-change l =
-    (length l.cost ≡ length l.fn.cost) × IsInside (length l.fn.cost) l.changes.items × (undone l.changes.items l.cost ≡ undone l.fn.changes.items l.fn.cost)
-
-abbrev pub decreases-loop-change : goal.decreases-loop-change
-decreases-loop-change l = length l.changes.items
+    let rest = l.change-iterator.iter.rest.now in
+    (length l.cost ≡ length l.initial.cost) × IsInside (length l.initial.cost) rest × (undone rest l.cost ≡ undone l.changes l.initial.cost)

@@ -9,7 +9,7 @@ pub returns-in_err-edited-clause-turned : goal.returns-in_err-edited-clause-turn
 unfolding Noted
 returns-in_err-edited-clause-turned c =
     let p = err_from_is_err_and c.from_residual.result c.from_residual.ensures.1 in
-    rw (p.1, p.2) (record { answer = Err c.in_err-edited.field-0.0; done = c.in_err-edited.ensures.done; told = refl; noted = (refl, refl) })
+    rw (p.1, p.2) (record { answer = Err c.in_err-edited.field-0.0; done = c.in_err-edited.ensures.done; told = refl; noted = refl })
 
 pub note-requires : goal.note-requires
 note-requires c =
@@ -19,4 +19,4 @@ note-requires c =
 pub returns-clause-turned : goal.returns-clause-turned
 unfolding Noted
 returns-clause-turned c =
-    record { answer = Ok c.in_ok-edited.edited; done = c.in_ok-edited.ensures.done; told = refl; noted = (c.note.ensures.touched, c.note.ensures.changes) }
+    record { answer = Ok c.in_ok-edited.edited; done = c.in_ok-edited.ensures.done; told = refl; noted = (c.note.ensures.touched, c.note.ensures.done, c.note.ensures.changes) }
