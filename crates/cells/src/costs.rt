@@ -12,11 +12,11 @@ use book::limits::Hall;
 pub fn within(limit: u32, table: &[u32]) -> bool
     ensures { result ≡ none_above limit table.now }
 {
-    let mut ok = true;
+    let mut bad = false;
     for x in table {
-        ok &= *x <= limit;
+        bad |= limit < *x;
     }
-    ok
+    !bad
 }
 
 // No stop has a link to itself.

@@ -2,17 +2,12 @@
 use Rattle.std.specs.Prelude.{Err, Ok}
 use Prim.Native.Nat.{ℕ, zero, suc, ◌+◌, ◌*◌, ◌<◌, ◌≤◌}
 use mathlib.Core.Path.{◌≡◌, refl, sym, ◌∙◌}
-use mathlib.Core.List.{List, ◌∷◌, ◌++◌}
-use mathlib.Core.Bool.{Bool, true, false, cond}
+use mathlib.Core.List.{List, ◌++◌}
 use native.Mathlib.Nat.{add-zero, zero-mul, suc-mul}
 use native.Mathlib.Numerals.{add-one}
 use native.Mathlib.Omega.{arith}
 use lib.ListN.{length, get_or, drop}
-use lib.Dec.{ltb}
 use lib.Seq.{sets}
-use Rattle.std.specs.List.{count_by}
-use Rattle.std.proofs.lemmas.List.Recursion.{is_count_by}
-use Rattle.routes.proofs.Counting.{sum_to-shift}
 use Rattle.routes.specs.Route.{sum_to}
 use Rattle.book.specs.Hall.{entry, image_of}
 use Rattle.book.specs.Contract.{of_write, stored}
@@ -22,23 +17,6 @@ use Rattle.book.proofs.Bytes.{stored as put}
 use Rattle.book.specs.Written.{link_record, records_to, links_to, trailer}
 use Rattle.book.proofs.Writer.{records-none, records-more, records-row, links-more, links-row, links-grow, length-record, length-records, length-image, trailer-stored}
 use Rattle.images.specs.Promise.{link_bit, link_bytes, links, Wrote}
-
--- the members that pass a test, counted one after another
-counted : (p : ℕ → Bool) (l : List ℕ) → count_by p l ≡ sum_to (length l) (λ i. cond (p (get_or l i 0)) 1 0)
-unfolding sum_to
-counted p l = sym (is_count_by (λ l. sum_to (length l) (λ i. cond (p (get_or l i 0)) 1 0)) p refl more l)
-  where
-    by : (b : Bool) (k : ℕ) → cond b 1 0 + k ≡ cond b (1 + k) k
-    by true k = refl
-    by false k = omega arith
-
-    more : (x : ℕ) (xs : List ℕ) → sum_to (length (x ∷ xs)) (λ i. cond (p (get_or (x ∷ xs) i 0)) 1 0) ≡
-        cond (p x) (1 + sum_to (length xs) (λ i. cond (p (get_or xs i 0)) 1 0)) (sum_to (length xs) (λ i. cond (p (get_or xs i 0)) 1 0))
-    more x xs = sum_to-shift (length xs) (λ i. cond (p (get_or (x ∷ xs) i 0)) 1 0) ∙ by (p x) (sum_to (length xs) (λ i. cond (p (get_or xs i 0)) 1 0))
-
--- links are counted so
-pub links-count : (cost : List ℕ) → count_by (ltb 0) cost ≡ links cost
-links-count cost = counted (ltb 0) cost
 
 -- a sum in two parts, and in rows
 sum_to-append : (a b : ℕ) (f : ℕ → ℕ) → sum_to (a + b) f ≡ sum_to a f + sum_to b (λ i. f (a + i))

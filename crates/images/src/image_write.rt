@@ -17,7 +17,11 @@ use hall::audit::audit;
 fn count(cost: &[u32]) -> usize
     ensures { (result ≡ links cost.now) × (result ≤ length cost.now) }
 {
-    cost.iter().filter(|c| 0 < **c).count()
+    let mut links = 0;
+    for c in cost {
+        links += usize::from(0 < *c);
+    }
+    links
 }
 
 // Stores the record of a pair that has a link. Says where the next record goes.

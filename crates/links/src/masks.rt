@@ -11,7 +11,7 @@ pub fn all_links(n: usize, cost: &[u32], out: &mut [u64; 64])
     requires { (n ≤ 64) × (length cost.now ≡ n * n) }
     ensures { AllLinks n cost.now out.new }
 {
-    *out = links_where(n, |at| 0 < cost[at]);
+    links_where(n, out, |at| 0 < cost[at]);
 }
 
 // The useful links of every stop: those whose cost is the time between their ends.
@@ -19,21 +19,19 @@ pub fn useful_links(n: usize, cost: &[u32], time: &[u32], out: &mut [u64; 64])
     requires { (n ≤ 64) × (length cost.now ≡ n * n) × (length time.now ≡ n * n) }
     ensures { UsefulLinks n cost.now time.now out.new }
 {
-    *out = links_where(n, |at| (0 < cost[at]) & (cost[at] == time[at]));
+    links_where(n, out, |at| (0 < cost[at]) & (cost[at] == time[at]));
 }
 
 // The links of every stop whose places in a table of n stops pass a test.
-fn links_where<F: Fn(usize) -> bool>(n: usize, test: F) -> [u64; 64]
+fn links_where<F: Fn(usize) -> bool>(n: usize, out: &mut [u64; 64], test: F)
     requires most { n ≤ 64 }
     requires callable { (at : ℕ) → at < n * n → F.pre test at }
-    ensures { (p : ℕ → Bool) → Answers (F.post test) n p → Masks n p result }
+    ensures { (p : ℕ → Bool) → Answers (F.post test) n p → Masks n p out.new }
 {
     let singles = each_alone();
-    let mut masks = [0u64; 64];
-    for (u, mask) in masks.iter_mut().enumerate() {
+    for (u, mask) in out.iter_mut().enumerate() {
         *mask = stops_where(n, u, &singles, &test);
     }
-    masks
 }
 
 // The links of stop u that pass, none where there is no such stop. The loop goes over stops by number: t is a part of a place, and the

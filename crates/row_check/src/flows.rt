@@ -1,5 +1,5 @@
 // The links of a row: what flows back over the tight ones, the ways that they bring, and whether one improves a time.
-ghost use Rattle.std.specs.Prelude.{MatchOption};
+ghost use Rattle.std.specs.Prelude.{◌≡◌, ℕ, ◌<◌, MatchOption};
 ghost use Rattle.links.specs.Costs.{linked_from};
 ghost use Rattle.row_check.specs.Tests.{at};
 ghost use Rattle.row_check.specs.Tight.{Kept, Scan, Scans, Balance, AllRelaxed, Balanced};
@@ -8,13 +8,6 @@ use links::counts;
 use links::network::Network;
 use links::numbers::{select, stay};
 use links::sets::Stops;
-
-// What goes over the tight links of a row: the flow back to each stop, for the source 0, and the sum of its ways, for the source 1.
-#[derive(Drop)]
-pub struct Tight {
-    pub back: [u64; 64],
-    pub sum: [u16; 64],
-}
 
 // Goes over the links from u, on routes from s, and adds the ways of u at the ends of the tight ones. Gives the flow back over
 // these, nothing where a link improves a time.
@@ -50,17 +43,25 @@ fn scan(
     if improves { None } else { Some(flow) }
 }
 
-// What goes over the tight links of all stops, nothing where a link improves a time.
-pub fn flows(network: Network, s: usize, time: &[u32], ways: &[u32], psi: &[u64]) -> Option<Tight>
-    requires { Balance network.n s network.cost.now network.passing.now network.out.now time.now ways.now psi.now }
-    ensures { let W = linked_from network.entry s in MatchOption result (¬ (AllRelaxed W network.entry.n time.now)) (λ f. Balanced W network.entry.n s time.now ways.now psi.now f.sum f.back) }
+// Leaves what goes over the tight links of all stops: the flow back to each stop, for the source 0, and the sum of its ways, for the
+// source 1. Gives nothing where a link improves a time.
+pub fn flows(
+    network: Network,
+    s: usize,
+    time: &[u32],
+    ways: &[u32],
+    psi: &[u64],
+    back: &mut [u64; 64],
+    sum: &mut [u16; 64],
+) -> Option<()>
+    requires asked { Balance network.n s network.cost.now network.passing.now network.out.now time.now ways.now psi.now }
+    requires empty { (t : ℕ) → t < 64 → at sum.old t ≡ 0 }
+    ensures { let W = linked_from network.entry s in MatchOption result (¬ (AllRelaxed W network.entry.n time.now)) (λ _. Balanced W network.entry.n s time.now ways.now psi.now sum.new back.new) }
 {
-    let mut back = [0u64; 64];
-    let mut sum = [0u16; 64];
     for (u, flow) in back[..network.n].iter_mut().enumerate() {
-        *flow = scan(network, s, u, time, ways, psi, &mut sum)?;
+        *flow = scan(network, s, u, time, ways, psi, sum)?;
     }
     back[s] = 0;
     sum[s] = 1;
-    Some(Tight { back, sum })
+    Some(())
 }

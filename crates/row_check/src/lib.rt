@@ -40,10 +40,12 @@ pub fn check(
     let mut psi = [0u64; 64];
     let psi = &mut psi[..network.n];
     handed::hand_back(s, measure, ways, share, psi);
-    let Some(tight) = flows::flows(network, s, time, ways, psi) else {
+    let mut back = [0u64; 64];
+    let mut sum = [0u16; 64];
+    let Some(()) = flows::flows(network, s, time, ways, psi, &mut back, &mut sum) else {
         return false;
     };
-    let back = &tight.back[..network.n];
-    let sum = &tight.sum[..network.n];
+    let back = &back[..network.n];
+    let sum = &sum[..network.n];
     tests::balanced(ways, share, back) && tests::counted(measure.limit + 1, ways, sum)
 }

@@ -2,7 +2,7 @@ use Prim.Native.Nat.{ℕ, ◌<◌, ◌≤◌}
 use mathlib.Core.Path.{◌≡◌, refl, sym, ap, ◌∙◌}
 use mathlib.Core.Bool.{not}
 use native.Mathlib.Omega.{arith}
-use lib.ListN.{length, take, replicate, length-replicate}
+use lib.ListN.{length, take, replicate, length-replicate, get_or-replicate}
 use lib.Seq.{length-take-le}
 use Rattle.routes.specs.Route.{mark}
 use Rattle.row_check.specs.Tests.{at}
@@ -42,10 +42,13 @@ hand_back-requires c =
     let a = c.args in
     little-divides a.network a.measure c.requires.source (parts (goal.at.hand_back-requires c).Start) (sym c.light.ensures ∙ c.if-not-light.false) (wide a.network.n a.network.linked.most)
 
-pub flows-requires : goal.flows-requires
-flows-requires c =
+pub flows-requires-clause-asked : goal.flows-requires-clause-asked
+flows-requires-clause-asked c =
     let a = c.args in
-    opened-balance a.network a.measure c.requires.source (parts (goal.at.flows-requires c).Start) (opened (goal.at.flows-requires c).Else-not-light (λ t l. omega (arith, c.type_inv.time t))) c.hand_back.ensures
+    opened-balance a.network a.measure c.requires.source (parts (goal.at.flows-requires-clause-asked c).Start) (opened (goal.at.flows-requires-clause-asked c).Else-not-light (λ t l. omega (arith, c.type_inv.time t))) c.hand_back.ensures
+
+pub flows-requires-clause-empty : goal.flows-requires-clause-empty
+flows-requires-clause-empty c = λ t l. get_or-replicate {A = ℕ} 64 t 0 0 l
 
 pub returns-in_default : goal.returns-in_default
 returns-in_default c = let a = c.args in improved a.network a.measure c.requires.source (parts (goal.at.returns-in_default c).Start) c.in_default.ensures
