@@ -1,10 +1,32 @@
--- What a call of a name asks for, and the name of what a call asks for. Assumes nothing.
-use Rattle.std.specs.Prelude.{ℕ}
+-- The place of a name, what a call of it asks for, and the name of what a call asks for. Assumes nothing.
+use Rattle.std.specs.Prelude.{ℕ, ◌+◌}
+use Rattle.book.specs.declared.Kind.{Kind}
+use Rattle.book.specs.declared.Kind.TheVariants.{Insert, Cheapen, Raise, Delete}
 use Rattle.calls.specs.declared.list.List.{List}
 use Rattle.calls.specs.declared.call.Name.{Name}
 use Rattle.calls.specs.declared.call.Name.TheVariants as name
 use Rattle.calls.specs.declared.call.Act.{Act}
 use Rattle.calls.specs.declared.call.Act.TheVariants as act
+
+-- the place of a kind of edit among the kinds
+abbrev pub kind_place : Kind → ℕ
+kind_place Insert = 0
+kind_place Cheapen = 1
+kind_place Raise = 2
+kind_place Delete = 3
+
+-- the place of a name among the names, with the kinds of edits apart
+abbrev pub name_number : Name → ℕ
+name_number name.EmptyHall = 0
+name_number name.WorkOut = 1
+name_number name.Audit = 2
+name_number (name.Edit kind) = 3 + kind_place kind
+name_number name.EditList = 7
+name_number name.ImageWrite = 8
+name_number name.ImageRead = 9
+name_number name.MoveOver = 10
+name_number name.ListRoutes = 11
+name_number name.ImageCheck = 12
 
 -- with two stops, a cost and a list, of which it reads what it brings
 abbrev pub act_of : Name → ℕ → ℕ → ℕ → List → Act

@@ -4,3 +4,4 @@ pub mod Answers
 pub mod Alike
 pub mod Lists
 pub mod Rooms
+pub mod Places

@@ -1,6 +1,6 @@
 // A call, with what it brings beside the tables and bytes that it is lent.
 ghost use Rattle.std.specs.Prelude.{◌≡◌, ◌<◌};
-ghost use Rattle.calls.specs.Kinds.{act_of, name_of};
+ghost use Rattle.calls.specs.Kinds.{act_of, name_number, name_of};
 
 use super::list::List;
 use book::{Edit, Kind};
@@ -48,7 +48,8 @@ impl Name {
 
     // The place of a name among them.
     pub fn number(self) -> usize
-        ensures { result < 13 }
+        ensures below { result < 13 }
+        ensures value { result ≡ name_number self }
     {
         match self {
             Name::EmptyHall => 0,

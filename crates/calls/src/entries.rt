@@ -1,5 +1,6 @@
 // Entries of a table, also where it has none.
-ghost use Rattle.std.specs.Prelude.{◌≡◌, ◌<◌, ◌≤◌, length, min, slice_get, slice_set};
+ghost use Rattle.std.specs.Prelude.{◌≡◌, ℕ, ◌<◌, ◌≤◌, length, min, slice_get, slice_set};
+ghost use Rattle.calls.specs.Places.{place_of};
 
 use super::tables::place;
 
@@ -28,6 +29,10 @@ pub fn put<T: Copy>(table: &mut [T], i: usize, x: T)
 }
 
 // The entry of a table for u and v, 0 where there is none.
-pub fn between<T: Copy + Into<u64>>(table: &[T], n: u64, u: u64, v: u64) -> u64 {
+pub fn between<T: Copy + Into<u64>>(table: &[T], n: u64, u: u64, v: u64) -> u64
+    ensures within { (i : ℕ) (x : T) → place_of n u v ≡ Some i → slice_get table.now i ≡ Some x → T.converts x result }
+    ensures behind { (i : ℕ) → place_of n u v ≡ Some i → length table.now ≤ i → result ≡ 0 }
+    ensures nowhere { place_of n u v ≡ None → result ≡ 0 }
+{
     place(n, u, v).map_or(0, |i| at(table, i))
 }

@@ -1,7 +1,7 @@
 // A list of edits by value. It has room for two edits more than a list may have.
-ghost use Rattle.std.specs.Prelude.{◌≡◌, ℕ, ◌+◌, ◌<◌, ◌≤◌, slice_index, slice_set, take};
+ghost use Rattle.std.specs.Prelude.{◌≡◌, ℕ, ◌+◌, ◌*◌, ◌<◌, ◌≤◌, length, min, slice_index, slice_set, take};
 ghost use Rattle.book.specs.declared.Edit.{Edit};
-ghost use Rattle.calls.specs.Lists.{four, number_at};
+ghost use Rattle.calls.specs.Lists.{four, number_at, number_in};
 
 use book::{Edit, Kind};
 
@@ -17,6 +17,13 @@ pub struct List {
     edits: [Edit; EDITS],
 
     ghost fits: { length ≤ 34 },
+}
+
+// How many numbers the edits have; a list that is longer than its room counts as full.
+pub fn numbers_of(length: usize) -> usize
+    ensures { (length ≤ 34 → result ≡ 4 * length) × (result ≤ 136) }
+{
+    if length < EDITS { 4 * length } else { NUMBERS }
 }
 
 // The four numbers of an edit, as the C face has them: its kind, its two stops and its cost.
@@ -73,7 +80,10 @@ impl List {
     }
 
     // The first edits, as many as there is room for.
-    pub fn of(edits: &[Edit]) -> List {
+    pub fn of(edits: &[Edit]) -> List
+        ensures count { result.length ≡ min (length edits.now) 34 }
+        ensures first { take result.length result.edits ≡ take 34 edits.now }
+    {
         edits
             .iter()
             .fold(List::new(), |list, edit| list.with(*edit))
@@ -85,13 +95,25 @@ impl List {
         &self.edits[..self.length]
     }
 
-    // The numbers of all its room.
+    // Number i of its edits, 0 behind them.
+    fn number(&self, i: usize) -> u64
+        requires { i < 136 }
+        ensures { (other : Edit) → result ≡ number_in self.now.length self.now.edits other i }
+    {
+        if i < numbers_of(self.length) {
+            number_at(&self.edits, i)
+        } else {
+            0
+        }
+    }
+
+    // Its numbers, and 0 in the rest of the room.
     pub fn numbers(&self) -> [u64; NUMBERS]
-        ensures { (i : ℕ) (other : Edit) → i < 136 → slice_index result i ≡ number_at self.now.edits other i }
+        ensures { (i : ℕ) (other : Edit) → i < 136 → slice_index result i ≡ number_in self.now.length self.now.edits other i }
     {
         let mut numbers = [0; NUMBERS];
         for (i, number) in numbers.iter_mut().enumerate() {
-            *number = number_at(&self.edits, i);
+            *number = self.number(i);
         }
         numbers
     }

@@ -1,6 +1,7 @@
 // Six tables by value, with room for a hall of 65 stops: the five that calls work on, and the passing times, which they only
 // read. A hall of n stops has the first n × n entries of each, and the first n passing times and scores.
 ghost use Rattle.std.specs.Prelude.{◌≡◌, ◌*◌, ◌<◌, ◌≤◌, IfSome, replicate};
+ghost use Rattle.calls.specs.Places.{place_of};
 
 use super::compare::{sum, unlike};
 use super::entries::{narrow, put};
@@ -82,7 +83,8 @@ pub fn stops(n: u64) -> usize
 
 // Where a table has its entry for u and v, if it has one.
 pub fn place(n: u64, u: u64, v: u64) -> Option<usize>
-    ensures { IfSome result (λ at. at < 4225) }
+    ensures within { IfSome result (λ at. at < 4225) }
+    ensures value { result ≡ place_of n u v }
 {
     if 65 < n || n <= u || n <= v {
         return None;

@@ -11,15 +11,24 @@ use book::limits::Hall;
 use book::{Edit, Kind, ListEdited, ListRefused};
 use course::edit_each;
 
+// The numbers of the kinds. 0 is none.
+pub const INSERT: u64 = 1;
+
+pub const CHEAPEN: u64 = 2;
+
+pub const RAISE: u64 = 3;
+
+pub const DELETE: u64 = 4;
+
 // The kind of a number of the C face.
 fn kind_of(number: u64) -> Option<Kind>
     ensures { result ≡ cond (no_kind number) None (Some (kind_of number)) }
 {
     match number {
-        1 => Some(Kind::Insert),
-        2 => Some(Kind::Cheapen),
-        3 => Some(Kind::Raise),
-        4 => Some(Kind::Delete),
+        INSERT => Some(Kind::Insert),
+        CHEAPEN => Some(Kind::Cheapen),
+        RAISE => Some(Kind::Raise),
+        DELETE => Some(Kind::Delete),
         _ => None,
     }
 }

@@ -58,6 +58,14 @@ fn touches(hall: &Hall<'_>, s: Stop, tally: &mut Tally) -> bool {
     tally.parts(hall).iter().any(|part| part.using > 0)
 }
 
+// The set with s in it: bit s is 1.
+fn with(set: u64, s: usize) -> u64
+    requires { s < 64 }
+    ensures { result ≡ bit_or set (2 ^ s) }
+{
+    set | 1 << s
+}
+
 // The set of the sources from which a quickest route, before or after, uses the link from u to v. Only
 // bits of stops are 1 in it.
 pub fn touched(before: &[u32], after: &[u32], passing: &[u32], n: u64, u: u64, v: u64) -> u64
@@ -71,7 +79,7 @@ pub fn touched(before: &[u32], after: &[u32], passing: &[u32], n: u64, u: u64, v
     for number in 0..before.n {
         let s = Stop::new(number);
         if touches(&before, s, &mut tally) || touches(&after, s, &mut tally) {
-            set |= 1 << number;
+            set = with(set, number);
         }
     }
     set

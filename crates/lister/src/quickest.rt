@@ -1,7 +1,7 @@
 // The quickest routes to a stop as bytes: their number, and behind it each route, the number of its stops in front of them. What
 // the buffer has no room for is left out. They come in the order of the walk, and none is the front of another, since the stop is
 // their last one and on none of them twice.
-ghost use Rattle.std.specs.Prelude.{◌≡◌, ◌<◌, ◌≤◌, length};
+ghost use Rattle.std.specs.Prelude.{◌≡◌, ◌<◌, ◌≤◌, length, drop};
 ghost use Rattle.lister.specs.Wrote.{Wrote, WroteOn};
 
 use crate::hall::{Hall, Stop};
@@ -32,7 +32,8 @@ impl List<'_> {
 
     // Counts a route in the first byte.
     fn count(&mut self)
-        ensures { WroteOn self.old.at self.new.at self.old.buffer self.new.buffer }
+        ensures wrote { WroteOn self.old.at self.new.at self.old.buffer self.new.buffer }
+        ensures first { drop 1 self.new.buffer.now ≡ drop 1 self.old.buffer.now }
     {
         self.buffer[0] = self.buffer[0].saturating_add(1);
     }

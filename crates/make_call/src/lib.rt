@@ -9,7 +9,7 @@ use book::lent::LentMut;
 use calls::answer::Answer;
 use calls::call::{Act, Call};
 use calls::lengths::{Odd, Table};
-use calls::list::List;
+use calls::list::{List, numbers_of};
 use calls::tables::{CELLS, STOPS, Tables};
 use edits::edit::edit;
 use flat_list::edit_flat;
@@ -32,7 +32,7 @@ pub fn check(image: &[u8], n: u64) -> Answer
 // A list of edits, lent as numbers.
 fn edit_list(n: u64, list: List, t: &mut LentMut<'_>) -> Answer {
     let numbers = list.numbers();
-    let length = 4 * list.edits().len();
+    let length = numbers_of(list.edits().len());
     Answer::from(edit_flat(n, &numbers[..length], t))
 }
 

@@ -1,4 +1,6 @@
 // Images, written and read apart from the hall.
+ghost use Rattle.std.specs.Prelude.{◌≤◌};
+
 use super::buffer::{BYTES, Buffer};
 use super::costs::Costs;
 use super::pair::Pair;
@@ -27,7 +29,9 @@ pub fn written(costs: &Costs, buffer: &Buffer) -> Buffer {
 }
 
 // How many records stand in front of the trailer.
-fn records(length: usize) -> usize {
+fn records(length: usize) -> usize
+    ensures { result ≤ 48 }
+{
     if length < 8 || BYTES < length {
         return 0;
     }

@@ -8,6 +8,6 @@ pub loop-number-preserved : goal.loop-number-preserved
 loop-number-preserved c =
     let below : c.loop-number.number < c.new-before.result.n = omega arith in
     elim c.if-touches.branch [
-      | then-touches w ↦ rw w.set-is (or_lt _ _ _ c.loop-number.invariant (omega (arith, pow-lt below)))
+      | then-touches w ↦ rw (w.set-is, w.with-set.ensures) (or_lt _ _ _ c.loop-number.invariant (pow-lt below))
       | else-touches+else-touches-2 w ↦ rw w.set-is c.loop-number.invariant
     ]

@@ -5,4 +5,4 @@ pub loop-v-preserved : goal.loop-v-preserved
 loop-v-preserved c = goes_on c.loop-v.invariant c.put-in-loop-v.ensures
 
 pub returns : goal.returns
-returns c = goes_on (goes_on c.count.ensures c.put.ensures) c.loop-v.invariant
+returns c = goes_on (goes_on c.count.ensures.wrote c.put.ensures) c.loop-v.invariant
