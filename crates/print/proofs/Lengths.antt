@@ -53,8 +53,8 @@ edit-short : (i : ℕ) (x : Edit) (b : Book) → i ≤ longest + 1 → Held b.st
 unfolding book_answer rule bytes
 edit-short i x b h held =
     reply-either (λ a. length (edit_line i a) ≤ line_bytes) (book_refusal call b) (rule n (edit x) b.layout)
-    (λ ok. simp length-append (omega (arith, line, decimal-below 0 0 (lit< tt) (lit< tt), decimal-below 1 rows (omega (arith, few)) (omega (arith, few)), decimal-below 4 before (omega (arith, most ok)) (omega (arith, most ok)))))
-    (simp length-append (omega (arith, line, decimal-below 1 (number (book_refusal call b)) small (omega (arith, small)), decimal-below 0 0 (lit< tt) (lit< tt))))
+    (λ ok. simp length-append (omega (arith, line, decimal-below 0 0 (lit< tt), decimal-below 1 rows (omega (arith, few)), decimal-below 4 before (omega (arith, most ok)))))
+    (simp length-append (omega (arith, line, decimal-below 1 (number (book_refusal call b)) (number_short (book_refusal call b)), decimal-below 0 0 (lit< tt))))
   where
     n : ℕ
     n = b.stops
@@ -68,11 +68,8 @@ edit-short i x b h held =
     before : ℕ
     before = entry n b.layout.cost x.u x.v
 
-    small : number (book_refusal call b) < 100
-    small = number_short (book_refusal call b)
-
     line : length (decimal i) ≤ 5
-    line = decimal-below 4 i (omega arith) (omega arith)
+    line = decimal-below 4 i (omega arith)
 
     few : rows ≤ most_stops
     few = omega (arith, ones n (touched n b.layout (with_edit n x b.layout) x.u x.v), (stops n held.size).1)
@@ -84,7 +81,7 @@ edit-short i x b h held =
 
 pub unread-short : (i : ℕ) → i ≤ longest + 1 → length (unread_line i) ≤ unread_bytes
 unfolding bytes
-unread-short i h = simp length-append (omega (arith, decimal-below 4 i (omega arith) (omega arith)))
+unread-short i h = simp length-append (omega (arith, decimal-below 4 i (omega arith)))
 
 -- a line prints at most so much
 pub said-short : (i : ℕ) (b : Book) (l : Option Edit) → i ≤ longest + 1 → Held b.stops b.layout → length (said i b l) ≤ line_bytes
@@ -100,8 +97,8 @@ said-within i b (x ∷ line) h held = omega (arith, said-short i b (line_of (wor
 
 pub stop-short : (v x : ℕ) → v < 100 → x < 2 ^ 64 → length (stop_line v x) ≤ stop_bytes
 unfolding bytes
-stop-short v x h fits = simp length-append (omega (arith, decimal-below 1 v h (omega arith), decimal-below 19 x (omega arith) fits))
+stop-short v x h fits = simp length-append (omega (arith, decimal-below 1 v h, decimal-below 19 x (omega arith)))
 
 pub head-short : (n : ℕ) → n < 100 → length (hall_line n) ≤ hall_bytes
 unfolding bytes
-head-short n h = simp length-append (omega (arith, decimal-below 1 n h (omega arith), decimal-below 4 scale (lit< tt) (lit< tt)))
+head-short n h = simp length-append (omega (arith, decimal-below 1 n h, decimal-below 4 scale (lit< tt)))

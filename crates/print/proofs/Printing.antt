@@ -1,7 +1,7 @@
 -- Laws of printing: a text behind another one, the room that it has, and how long a number is. Assumes nothing.
 use Prim.Native.Nat.{ℕ, zero, suc, ◌+◌, ◌-◌, ◌/◌, ◌%◌, ◌^◌, ◌<◌, ◌≤◌}
-use mathlib.Core.Path.{◌≡◌, ◌∙◌, ap}
-use mathlib.Core.Bool.{cond}
+use mathlib.Core.Path.{◌≡◌, refl, ◌∙◌, ap}
+use mathlib.Core.Bool.{Bool, true, false, cond}
 use mathlib.Core.List.{List, [], ◌∷◌, ◌++◌, append_assoc}
 use native.Mathlib.Nat.{pow-suc}
 use native.Mathlib.Omega.{arith}
@@ -9,9 +9,9 @@ use lib.Dec.{ltb}
 use lib.ListN.{length, drop, length-append}
 use lib.Seq.{sets, length-sets, sets-eq}
 use borrow.Rule.Slice.PartMut.{post_of, put_mid, Post-is}
-use borrow.Author.Tests.{lt-ltb, le-ltb}
+use borrow.Author.Tests.{ltb-false, lt-ltb, le-ltb}
 use Rattle.std.specs.Fmt as Fmt
-use Rattle.std.proofs.lemmas.Fmt.{decimal_by_steps, length-decimal-le}
+use Rattle.std.proofs.lemmas.Fmt.{decimal_by_steps}
 use Rattle.routes.proofs.Stored.{sets-append}
 use Rattle.words.specs.Text.{decimal_to, decimal}
 use Rattle.print.specs.declared.Output.{Output}
@@ -65,8 +65,20 @@ decimal-std x h =
     (λ n ds l e f. decimal-large n l f ∙ ap (λ (k : List ℕ). k ++ ((48 + n % 10) ∷ [])) (e (omega arith))) x h h
 
 -- a number below a power of ten has no more digits
-pub decimal-below : (k x : ℕ) → x < 10 ^ suc k → x < 2 ^ 64 → length (decimal x) ≤ suc k
-decimal-below k x h f = rw (decimal-std x f) (length-decimal-le (suc k) x (omega arith) h f)
+digits-below : (j k x : ℕ) → x < 10 ^ suc k → length (decimal_to j x) ≤ suc k
+unfolding decimal_to
+digits-below zero k x h = omega arith
+digits-below (suc j) k x h = go (ltb x 10) refl k h (digits-below j)
+  where
+    go : (b : Bool) → ltb x 10 ≡ b → (k : ℕ) → x < 10 ^ suc k → ((k x : ℕ) → x < 10 ^ suc k → length (decimal_to j x) ≤ suc k) →
+        length (cond b ((48 + x) ∷ []) (decimal_to j (x / 10) ++ ((48 + x % 10) ∷ []))) ≤ suc k
+    go true e k h more = omega arith
+    go false e zero h more = absurd (omega (arith, ltb-false x 10 e))
+    go false e (suc k) h more =
+        omega (arith, length-append (decimal_to j (x / 10)) ((48 + x % 10) ∷ []), more k (x / 10) (omega (arith, pow-suc 10 (suc k))))
+
+pub decimal-below : (k x : ℕ) → x < 10 ^ suc k → length (decimal x) ≤ suc k
+decimal-below k x h = digits-below 19 k x h
 
 -- what is still to be printed from a place on makes the same whole as another text from another place on
 pub record Left (text : List ℕ) (at : ℕ) (out text₀ : List ℕ) (at₀ : ℕ) (out₀ : List ℕ) : Type 0 where
